@@ -1,0 +1,71 @@
+-- What holds of an effect if it is accepted, and how to walk a call's rule by its tests without writing a branch out. Assumes nothing.
+use Prim.Native.Nat.{ℕ, _≤_}
+use mathlib.Core.Path.{_≡_, refl, subst}
+use mathlib.Core.Bool.{Bool, true, false, _&&_}
+use mathlib.Core.List.{List, [], _∷_}
+use lib.Dec.{leb}
+use Rattle.model.specs.declared.Shape.{Shape}
+use Rattle.model.specs.declared.Call.{Call}
+use Rattle.model.specs.declared.Call.the-variants.{Enter, Exit, Wait, Notify, Broadcast, Naked, Requeue, SetPriority, Tick}
+use Rattle.model.specs.Queue.{Queue, Note}
+use Rattle.model.specs.Queue.Queue.{condition}
+use Rattle.model.specs.Field.{Fields}
+use Rattle.model.specs.Rules.{Effect, unless, choose, nakedly, decide}
+use Rattle.model.specs.Rules.Effect.{refuse, accept}
+use Rattle.model.proofs.Tests.{so, leb-case, and-split}
+
+-- the codes that a rule refuses with lie in 2 to 10
+abbrev pub refusing : ℕ → Bool
+refusing k = leb 2 k && leb k 10
+
+pub data Accepted (P : Fields → List Note → ℕ → Type 0) : Effect → Type 0 where
+  refused : {k : ℕ} → refusing k ≡ true → Accepted P (refuse k)
+  accepted : {f : Fields} {ms : List Note} {k : ℕ} → P f ms k → Accepted P (accept f ms k)
+
+module _ {P : Fields → List Note → ℕ → Type 0} where
+  pub unless-by : {b : Bool} (k : ℕ) {e : Effect} → refusing k ≡ true → (b ≡ false → Accepted P e) → Accepted P (unless b k e)
+  unfolding unless
+  unless-by {b = true} k z h = refused z
+  unless-by {b = false} k z h = h refl
+
+  pub choose-by : {b : Bool} {d e : Effect} → (b ≡ true → Accepted P d) → (b ≡ false → Accepted P e) → Accepted P (choose b d e)
+  unfolding choose
+  choose-by {b = true} h k = h refl
+  choose-by {b = false} h k = k refl
+
+  -- both ways of a device's notify
+  pub nakedly-by : (c : ℕ) (xs : List ℕ) (s : Fields) → (xs ≡ [] → Accepted P (nakedly c [] s)) → ((x : ℕ) (ys : List ℕ) → xs ≡ x ∷ ys → Accepted P (nakedly c (x ∷ ys) s)) → Accepted P (nakedly c xs s)
+  nakedly-by c [] s h k = h refl
+  nakedly-by c (x ∷ ys) s h k = k x ys refl
+
+  -- what is accepted has the property, and what is refused has such a code
+  pub of-accept : {e : Effect} {f : Fields} {ms : List Note} {k : ℕ} → Accepted P e → e ≡ accept f ms k → P f ms k
+  of-accept {f} {ms} {k} a d = go (subst (Accepted P) d a)
+    where
+      go : Accepted P (accept f ms k) → P f ms k
+      go (accepted p) = p
+
+  pub of-refuse : {k : ℕ} → Accepted P (refuse k) → (2 ≤ k) × (k ≤ 10)
+  of-refuse {k} (refused e) = let s = and-split (leb 2 k) (leb k 10) e in (so (leb-case 2 k) (s .0), so (leb-case k 10) (s .1))
+
+-- a mark is 0 or 1
+abbrev pub Marked : Fields → List Note → ℕ → Type 0
+Marked f ms k = leb k 1 ≡ true
+
+pub decide-marks : (n : Shape) (s : Fields) (qs : Queue → List ℕ) (c : Call) → Accepted Marked (decide n s qs c)
+unfolding decide nakedly
+decide-marks n s qs (Enter l) =
+    unless-by _ refl (λ _. unless-by _ refl (λ _. unless-by _ refl (λ _. choose-by (λ _. accepted refl) (λ _. accepted refl))))
+decide-marks n s qs (Exit l) = unless-by _ refl (λ _. unless-by _ refl (λ _. unless-by _ refl (λ _. accepted refl)))
+decide-marks n s qs (Wait l c t) =
+    unless-by _ refl (λ _. unless-by _ refl (λ _. unless-by _ refl (λ _. choose-by (λ _. accepted refl) (λ _. accepted refl))))
+decide-marks n s qs (Notify c) = unless-by _ refl (λ _. unless-by _ refl (λ _. accepted refl))
+decide-marks n s qs (Broadcast c) = unless-by _ refl (λ _. unless-by _ refl (λ _. accepted refl))
+decide-marks n s qs (Naked c) = unless-by _ refl (λ _. nakedly-by c (qs (condition c)) s (λ _. accepted refl) (λ x ys _. accepted refl))
+decide-marks n s qs (Requeue a b p) = unless-by _ refl (λ _. unless-by _ refl (λ _. accepted refl))
+decide-marks n s qs (SetPriority v) = unless-by _ refl (λ _. unless-by _ refl (λ _. accepted refl))
+decide-marks n s qs Tick = accepted refl
+
+-- no rule refuses with code 0, nor with code 1
+pub codes : (n : Shape) (s : Fields) (qs : Queue → List ℕ) (c : Call) (k : ℕ) → decide n s qs c ≡ refuse k → (2 ≤ k) × (k ≤ 10)
+codes n s qs c k e = of-refuse (subst (Accepted Marked) e (decide-marks n s qs c))

@@ -1,0 +1,13 @@
+pub mod Tests
+pub mod Lists
+pub mod Notes
+pub mod Fields
+pub mod Accepted
+pub mod Simulation
+pub mod Locks
+pub mod Places
+pub mod Good
+pub mod Kept
+pub mod History
+pub mod Loops
+pub mod Rules

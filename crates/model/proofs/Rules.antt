@@ -1,0 +1,142 @@
+-- Laws that pin single rules, over every fields and queues, valid or not: each follows its rule's tests to the accepted effect. Assumes nothing.
+use Prim.Native.Nat.{ℕ, _+_, _%_, _≤_, _<_}
+use native.Mathlib.Omega.{arith}
+use mathlib.Core.Path.{_≡_, refl, ap, sym, _∙_}
+use mathlib.Core.Logic.{_≢_}
+use mathlib.Core.Bool.{Bool, true, _&&_, cond, true≢false}
+use mathlib.Core.List.{List, [], _∷_, _++_}
+use lib.Dec.{eqb}
+use Rattle.model.specs.declared.Shape.{Shape}
+use Rattle.model.specs.declared.Call.{Call}
+use Rattle.model.specs.declared.Call.the-variants.{Enter, Exit, Wait, Notify, Broadcast}
+use Rattle.model.specs.declared.Ticks.{Ticks}
+use Rattle.model.specs.declared.Answer.{Answer}
+use Rattle.model.specs.Queue.{Queue, Note, inside, upTo, member, first, firstOnly, insert, toReady, All}
+use Rattle.model.specs.Queue.Queue.{ready, condition}
+use Rattle.model.specs.Field.{Field, Fields, put, some, priorities}
+use Rattle.model.specs.Field.Field.{running, timer, failed, holder, wakeup}
+use Rattle.model.specs.Rules.{Effect, decide, released, alarm, due}
+use Rattle.model.specs.Rules.Effect.{refuse, accept}
+use Rattle.model.specs.Machine.{Machine, State, moves, refusal, dispatch, retry, arrivals, finish, obey, step}
+use Rattle.model.proofs.Tests.{holds, fails, so, not-so, EqCase, eqb-case, eqb-yes, eqb-no, put-here, put-away, and-split, not-true}
+use Rattle.model.proofs.Lists.{filter-member, member-filter, member-upTo, insert-skip, insert-front}
+use Rattle.model.proofs.Fields.{calm-away, dispatch-priorities, dispatch-running}
+use Rattle.model.proofs.Accepted.{Accepted, accepted, unless-by, choose-by}
+
+-- a newcomer goes behind its equals
+pub behind-equals : (pr : ℕ → ℕ) (p : ℕ) (xs ys : List ℕ) → All (λ x. pr p ≤ pr x) xs → All (λ y. pr y < pr p) ys → insert pr p (xs ++ ys) ≡ xs ++ (p ∷ ys)
+behind-equals pr p xs ys h k = insert-skip pr p xs ys h ∙ rw (insert-front pr p ys k)
+
+all-ready : (ps : List ℕ) → All (λ (m : Note). m .1 ≡ ready) (toReady ps)
+all-ready [] = tt
+all-ready (p ∷ ps) = (refl, all-ready ps)
+
+module _ (n : Shape) (s : Fields) (qs : Queue → List ℕ) where
+  -- Enter of a free lock takes it, whoever queues there
+  pub enter-takes : (l : ℕ) → s (holder l) ≡ 0 → Accepted (λ g ms k. (g ≡ put (holder l) (s running) s) × (ms ≡ []) × (k ≡ 1)) (decide n s qs (Enter l))
+  unfolding decide
+  enter-takes l e = unless-by _ refl (λ _. unless-by _ refl (λ _. unless-by _ refl (λ _. choose-by
+      (λ _. accepted (refl, refl, refl)) (λ z. absurd (not-so (eqb-case (s (holder l)) 0) z e)))))
+
+  -- Exit hands the lock to nobody, and changes no other field
+  pub exit-frees : (l : ℕ) → Accepted (λ g ms k. (g (holder l) ≡ 0) × ((f : Field) → holder l ≢ f → g f ≡ s f) × (ms ≡ released qs l) × (k ≡ 0)) (decide n s qs (Exit l))
+  unfolding decide
+  exit-frees l = unless-by _ refl (λ _. unless-by _ refl (λ _. unless-by _ refl (λ _. accepted (put-here (holder l) 0 s, (λ f o. put-away (holder l) 0 s f o), refl, refl))))
+
+  -- Wait over a set wakeup clears it and keeps its caller's place: the lock's first alone moves
+  pub wait-stays : (l c : ℕ) (t : Ticks) → some (s (wakeup c)) ≡ true
+      → Accepted (λ g ms k. (g ≡ put (wakeup c) 0 (put (holder l) 0 s)) × (ms ≡ released qs l) × (k ≡ 0)) (decide n s qs (Wait l c t))
+  unfolding decide
+  wait-stays l c t e = unless-by _ refl (λ _. unless-by _ refl (λ _. unless-by _ refl (λ _. choose-by
+      (λ _. accepted (refl, refl, refl)) (λ z. absurd (true≢false (sym e ∙ z))))))
+
+  -- Notify sets no wakeup, and moves only to ready
+  pub notify-wakes : (c : ℕ) → Accepted (λ g ms k. ((d : ℕ) → g (wakeup d) ≡ s (wakeup d)) × All (λ m. m .1 ≡ ready) ms × (ms ≡ toReady (firstOnly (qs (condition c)))) × (k ≡ 0)) (decide n s qs (Notify c))
+  unfolding decide
+  notify-wakes c = unless-by _ refl (λ _. unless-by _ refl (λ _.
+      accepted ((λ d. calm-away (wakeup d) (λ p t. refl) (firstOnly (qs (condition c))) s), all-ready (firstOnly (qs (condition c))), refl, refl)))
+
+  -- Broadcast wakes all of the queue, in its order
+  pub broadcast-wakes : (c : ℕ) → Accepted (λ g ms k. (ms ≡ toReady (qs (condition c))) × (k ≡ 0)) (decide n s qs (Broadcast c))
+  unfolding decide
+  broadcast-wakes c = unless-by _ refl (λ _. unless-by _ refl (λ _. accepted (refl, refl)))
+
+-- a wait of t ticks stores no timer of 0, unless t is 0
+pub alarm-rings : (now t : ℕ) → t ≢ 0 → alarm now t ≢ 0
+alarm-rings now t h = rw (eqb-no t 0 h) (go (eqb-case ((now + t) % 65536) 0))
+  where
+    go : EqCase ((now + t) % 65536) 0 → cond (eqb ((now + t) % 65536) 0) 1 ((now + t) % 65536) ≢ 0
+    go (holds d z) = rw z (omega arith)
+    go (fails d z) = rw z d
+
+-- Tick leaves a timer of 0 asleep, and wakes those whose timer is the clock
+module _ (n : Shape) (s : Fields) (now p : ℕ) where
+  abbrev rung : ℕ → Bool
+  rung x = some (s (timer x)) && eqb (s (timer x)) now
+
+  pub due-rung : member p (due n s now) ≡ true → (s (timer p) ≢ 0) × (s (timer p) ≡ now)
+  due-rung e =
+      let k = and-split (some (s (timer p))) (eqb (s (timer p)) now) ((filter-member rung p (upTo (n .processes)) e) .1) in
+      (not-so (eqb-case (s (timer p)) 0) (not-true (eqb (s (timer p)) 0) (k .0)), so (eqb-case (s (timer p)) now) (k .1))
+
+  pub rung-due : inside (n .processes) p ≡ true → s (timer p) ≢ 0 → s (timer p) ≡ now → member p (due n s now) ≡ true
+  rung-due i o e = member-filter rung p (upTo (n .processes)) (member-upTo (n .processes) p i) (rw (eqb-no (s (timer p)) 0 o, eqb-yes (s (timer p)) now e))
+
+-- ---- what all calls share
+
+-- how an accepted call ends, g being the fields before dispatch
+pub record Ended (M : Machine) (g : Fields) (r : State M × Answer) : Type 0 where
+  -- running is the first of ready, and the answer says so
+  pub runs : r .0 .fields running ≡ first (M .read (priorities (r .0 .fields)) (r .0 .queues) ready)
+  pub says : r .1 .running ≡ r .0 .fields running
+  -- the first's failed bit is cleared, and retry is what it was
+  pub clears : (x : ℕ) (xs : List ℕ) → M .read (priorities (r .0 .fields)) (r .0 .queues) ready ≡ x ∷ xs → (r .1 .retry ≡ g (failed x)) × (r .0 .fields (failed x) ≡ 0)
+  pub idles : M .read (priorities (r .0 .fields)) (r .0 .queues) ready ≡ [] → r .1 .retry ≡ 0
+  -- no other field changes
+  pub others : (f : Field) → running ≢ f → failed (r .0 .fields running) ≢ f → r .0 .fields f ≡ g f
+
+-- dispatch ends Start and every accepted call so
+pub finish-ends : (M : Machine) (g : Fields) (q : M .Queues) (k came : ℕ) → Ended M g (finish M g q k came)
+finish-ends M g q k came = record {
+  runs = dispatch-running inReady g ∙ ap first (sym again);
+  says = sym (dispatch-running inReady g);
+  clears = λ x xs e. clears-go inReady x xs (sym again ∙ e);
+  idles = λ e. idles-go inReady (sym again ∙ e);
+  others = others-go inReady;
+}
+  where
+    inReady : List ℕ
+    inReady = M .read (priorities g) q ready
+
+    -- dispatch changes no reading
+    again : M .read (priorities (dispatch inReady g)) q ready ≡ inReady
+    again = ap {A = ℕ → ℕ} (λ pr. M .read pr q ready) (dispatch-priorities inReady g)
+
+    clears-go : (ys : List ℕ) (x : ℕ) (xs : List ℕ) → ys ≡ x ∷ xs → (retry ys g ≡ g (failed x)) × (dispatch ys g (failed x) ≡ 0)
+    clears-go ys x xs e = rw e (refl, put-here (failed x) 0 (put running x g))
+
+    idles-go : (ys : List ℕ) → ys ≡ [] → retry ys g ≡ 0
+    idles-go ys e = rw e
+
+    others-go : (ys : List ℕ) (f : Field) → running ≢ f → failed (dispatch ys g running) ≢ f → dispatch ys g f ≡ g f
+    others-go [] f a b = put-away running 0 g f a
+    others-go (x ∷ xs) f a b = put-away (failed x) 0 (put running x g) f b ∙ put-away running x g f a
+
+module _ (M : Machine) (n : Shape) (s : State M) (c : Call) where
+  -- what the rules say of the call in this state
+  abbrev pub effect : Effect
+  effect = decide n (s .fields) (M .read (priorities (s .fields)) (s .queues)) c
+
+  -- a refused call changes nothing and answers zeros beside its code
+  pub refused-stays : (step M n s c) .1 .code ≢ 0 → step M n s c ≡ (s, refusal ((step M n s c) .1 .code))
+  unfolding step
+  refused-stays = go effect
+    where
+      go : (e : Effect) → (obey M s e) .1 .code ≢ 0 → obey M s e ≡ (s, refusal ((obey M s e) .1 .code))
+      go (refuse k) h = refl
+      go (accept g ms k) h = absurd (h refl)
+
+  -- an accepted call ends with dispatch
+  pub accepted-ends : (g : Fields) (ms : List Note) (k : ℕ) → effect ≡ accept g ms k → Ended M g (step M n s c)
+  unfolding step
+  accepted-ends g ms k e = rw e (finish-ends M g (moves M (priorities g) (s .queues) ms) k (arrivals (M .read (priorities (s .fields)) (s .queues) ready) ms))

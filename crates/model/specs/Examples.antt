@@ -1,0 +1,296 @@
+-- Computed examples, on the model and on the ledger: short scripts that pin each rule's details, with every answer and what is left. By computation. Assumes nothing.
+use Prim.Native.Nat.{ℕ}
+use native.Mathlib.Decide.{ℕ-discrete}
+use mathlib.Core.Path.{refl}
+use mathlib.Core.List.{List, [], _∷_, _++_, map}
+use Rattle.model.specs.declared.Shape.{Shape}
+use Rattle.model.specs.declared.Call.{Call}
+use Rattle.model.specs.declared.Call.the-variants.{Enter, Exit, Wait, Notify, Broadcast, Naked, Requeue, SetPriority, Tick}
+use Rattle.model.specs.Queue.{Queue}
+use Rattle.model.specs.Queue.Queue.{ready, park, lock, condition}
+use Rattle.model.specs.Field.{Field, put, priorities}
+use Rattle.model.specs.Field.Field.{clock, running, priority, timer, failed, holder, wakeup}
+use Rattle.model.specs.Rules.{unless, choose, nakedly, decide, startCode}
+use Rattle.model.specs.Machine.{Machine, State, model, start, step, after, answers}
+use Rattle.model.specs.Ledger.{ledger, reading}
+use Rattle.model.specs.Table.{Row, Holds, line}
+
+-- ---- a script: calls with their answers; then queues and fields as they must be left
+
+abbrev Turn : Type 0
+Turn = Call × List ℕ
+
+abbrev gives : Call → ℕ → ℕ → ℕ → ℕ → ℕ → Turn
+gives c code runs retry mark moved = (c, code ∷ runs ∷ retry ∷ mark ∷ moved ∷ [])
+
+-- a refusal
+abbrev refuses : Call → ℕ → Turn
+refuses c code = gives c code 0 0 0 0
+
+-- P processes, L locks, C conditions, K parks
+abbrev sized : ℕ → ℕ → ℕ → ℕ → Shape
+sized p l c k = record { processes = p; locks = l; conditions = c; parks = k }
+
+abbrev playFrom : (M : Machine) → Shape → State M → List Turn → List (Queue × List ℕ) → List (Field × ℕ) → Row
+playFrom M n s turns qs fs =
+    let calls = map (λ (t : Turn). t .0) turns in
+    let left = after M n s calls in
+    record {
+      come = map line (answers M n s calls) ++ (map (λ (q : Queue × List ℕ). M .read (priorities (left .fields)) (left .queues) (q .0)) qs ++ (map (λ (f : Field × ℕ). left .fields (f .0)) fs ∷ []));
+      must = map (λ (t : Turn). t .1) turns ++ (map (λ (q : Queue × List ℕ). q .1) qs ++ (map (λ (f : Field × ℕ). f .1) fs ∷ []));
+    }
+
+abbrev play : (M : Machine) → Shape → List ℕ → List Turn → List (Queue × List ℕ) → List (Field × ℕ) → Row
+play M n bytes turns qs fs = playFrom M n ((start M n bytes) .0) turns qs fs
+
+-- three equals at clock 65,535, the first in lock 1
+abbrev late : (M : Machine) → State M
+late M =
+    let s = after M (sized 3 1 1 0) ((start M (sized 3 1 1 0) (3 ∷ 3 ∷ 3 ∷ [])) .0) (Enter 1 ∷ []) in
+    record { fields = put clock 65535 (s .fields); queues = s .queues }
+
+-- ---- the scripts
+
+-- nobody runs: 6 comes before 7, 9 and 4; a device and Requeue need no running process; 7 before 10
+abbrev nobodyRuns : Machine → Row
+nobodyRuns M = play M (sized 1 1 1 1) (0 ∷ [])
+    (gives (Requeue 0 1 (record { 0 = 1 })) 0 0 0 0 0
+    ∷ refuses (Enter 9) 6
+    ∷ refuses (Exit 9) 6
+    ∷ refuses (Wait 9 9 (record { 0 = 0 })) 6
+    ∷ refuses (Notify 9) 6
+    ∷ refuses (Broadcast 9) 6
+    ∷ refuses (SetPriority (record { 0 = 8 })) 6
+    ∷ refuses (Naked 9) 7
+    ∷ gives Tick 0 0 0 0 0
+    ∷ refuses (Requeue 2 0 (record { 0 = 1 })) 7
+    ∷ refuses (Requeue 0 2 (record { 0 = 1 })) 7
+    ∷ refuses (Requeue 0 0 (record { 0 = 0 })) 7
+    ∷ refuses (Requeue 0 0 (record { 0 = 2 })) 7
+    ∷ refuses (Requeue 0 0 (record { 0 = 1 })) 10
+    ∷ gives (Requeue 1 0 (record { 0 = 1 })) 0 1 0 0 1
+    ∷ [])
+    ((ready, 1 ∷ []) ∷ (park 1, []) ∷ [])
+    ((clock, 1) ∷ (running, 1) ∷ [])
+
+-- somebody runs: 7 before 8 and 9; an own lock is 8; a lock that is not held is 9; priority 8 is 4; refusals change nothing
+abbrev refusals : Machine → Row
+refusals M = play M (sized 2 1 1 0) (3 ∷ 3 ∷ [])
+    (refuses (Enter 0) 7
+    ∷ refuses (Enter 2) 7
+    ∷ refuses (Exit 0) 7
+    ∷ refuses (Exit 2) 7
+    ∷ refuses (Exit 1) 9
+    ∷ refuses (Wait 1 1 (record { 0 = 0 })) 9
+    ∷ refuses (Wait 1 0 (record { 0 = 0 })) 7
+    ∷ refuses (Wait 1 2 (record { 0 = 0 })) 7
+    ∷ refuses (Wait 0 1 (record { 0 = 0 })) 7
+    ∷ refuses (Wait 2 1 (record { 0 = 0 })) 7
+    ∷ gives (Enter 1) 0 1 0 1 0
+    ∷ refuses (Enter 1) 8
+    ∷ gives (Exit 1) 0 1 0 0 0
+    ∷ refuses (Exit 1) 9
+    ∷ refuses (Notify 0) 7
+    ∷ refuses (Notify 2) 7
+    ∷ refuses (Broadcast 0) 7
+    ∷ refuses (Broadcast 2) 7
+    ∷ refuses (Naked 0) 7
+    ∷ refuses (Naked 2) 7
+    ∷ refuses (SetPriority (record { 0 = 8 })) 4
+    ∷ [])
+    ((ready, 1 ∷ 2 ∷ []) ∷ (lock 1, []) ∷ (condition 1, []) ∷ [])
+    ((running, 1) ∷ (holder 1, 0) ∷ (wakeup 1, 0) ∷ (priority 1, 3) ∷ [])
+
+-- Exit hands the lock to nobody; a free lock is taken though others queue there; a failed process that runs again is retried
+abbrev exitToNobody : Machine → Row
+exitToNobody M = play M (sized 3 1 0 0) (1 ∷ 1 ∷ 1 ∷ [])
+    (gives (Enter 1) 0 1 0 1 0
+    ∷ gives (Requeue 0 0 (record { 0 = 1 })) 0 2 0 0 0
+    ∷ gives (Enter 1) 0 3 0 0 0
+    ∷ gives (Enter 1) 0 1 0 0 0
+    ∷ gives (Exit 1) 0 1 0 0 1
+    ∷ gives (Enter 1) 0 1 0 1 0
+    ∷ gives (Requeue 0 0 (record { 0 = 1 })) 0 2 1 0 0
+    ∷ gives (Enter 1) 0 1 0 0 0
+    ∷ [])
+    ((ready, 1 ∷ []) ∷ (lock 1, 3 ∷ 2 ∷ []) ∷ [])
+    ((running, 1) ∷ (holder 1, 1) ∷ (failed 2, 1) ∷ (failed 3, 1) ∷ [])
+
+-- after Exit the holder is 0 and its first stands in ready; when that failed process runs again it is retried, once
+abbrev exitFrees : Machine → Row
+exitFrees M = play M (sized 2 1 0 0) (1 ∷ 1 ∷ [])
+    (gives (Enter 1) 0 1 0 1 0
+    ∷ gives (Requeue 0 0 (record { 0 = 1 })) 0 2 0 0 0
+    ∷ gives (Enter 1) 0 1 0 0 0
+    ∷ gives (Exit 1) 0 1 0 0 1
+    ∷ gives (Requeue 0 0 (record { 0 = 1 })) 0 2 1 0 0
+    ∷ gives Tick 0 2 0 0 0
+    ∷ [])
+    ((ready, 2 ∷ 1 ∷ []) ∷ (lock 1, []) ∷ [])
+    ((running, 2) ∷ (holder 1, 0) ∷ (failed 2, 0) ∷ [])
+
+-- Naked over an empty queue sets the wakeup, as often as it comes; Wait then clears it, leaves the lock, and keeps its caller before its equals
+abbrev nakedTwice : Machine → Row
+nakedTwice M = play M (sized 3 1 1 0) (2 ∷ 2 ∷ 2 ∷ [])
+    (gives (Naked 1) 0 1 0 1 0
+    ∷ gives (Naked 1) 0 1 0 1 0
+    ∷ gives (Enter 1) 0 1 0 1 0
+    ∷ gives (Wait 1 1 (record { 0 = 5 })) 0 1 0 0 0
+    ∷ [])
+    ((ready, 1 ∷ 2 ∷ 3 ∷ []) ∷ (condition 1, []) ∷ [])
+    ((running, 1) ∷ (wakeup 1, 0) ∷ (timer 1, 0) ∷ (holder 1, 0) ∷ [])
+
+-- Wait over a set wakeup lets the first of the lock go to ready
+abbrev wakeupAndLock : Machine → Row
+wakeupAndLock M = play M (sized 2 1 1 0) (2 ∷ 2 ∷ [])
+    (gives (Enter 1) 0 1 0 1 0
+    ∷ gives (Requeue 0 0 (record { 0 = 1 })) 0 2 0 0 0
+    ∷ gives (Enter 1) 0 1 0 0 0
+    ∷ gives (Naked 1) 0 1 0 1 0
+    ∷ gives (Wait 1 1 (record { 0 = 0 })) 0 1 0 0 1
+    ∷ [])
+    ((ready, 1 ∷ 2 ∷ []) ∷ (lock 1, []) ∷ (condition 1, []) ∷ [])
+    ((running, 1) ∷ (wakeup 1, 0) ∷ (holder 1, 0) ∷ (failed 2, 1) ∷ [])
+
+-- Notify over an empty queue sets no wakeup, so a later Wait sleeps
+abbrev notifySetsNothing : Machine → Row
+notifySetsNothing M = play M (sized 2 1 1 0) (2 ∷ 2 ∷ [])
+    (gives (Notify 1) 0 1 0 0 0
+    ∷ gives (Enter 1) 0 1 0 1 0
+    ∷ gives (Wait 1 1 (record { 0 = 0 })) 0 2 0 1 0
+    ∷ [])
+    ((ready, 2 ∷ []) ∷ (condition 1, 1 ∷ []) ∷ [])
+    ((running, 2) ∷ (wakeup 1, 0) ∷ (holder 1, 0) ∷ [])
+
+-- Notify and Naked wake the first of the queue alone, which stands by priority, and clear its timer
+abbrev notifyFirst : Machine → Row
+notifyFirst M = play M (sized 4 1 1 0) (2 ∷ 2 ∷ 3 ∷ 1 ∷ [])
+    (gives (Enter 1) 0 3 0 1 0
+    ∷ gives (Wait 1 1 (record { 0 = 9 })) 0 1 0 1 0
+    ∷ gives (Enter 1) 0 1 0 1 0
+    ∷ gives (Wait 1 1 (record { 0 = 9 })) 0 2 0 1 0
+    ∷ gives (Enter 1) 0 2 0 1 0
+    ∷ gives (Wait 1 1 (record { 0 = 9 })) 0 4 0 1 0
+    ∷ gives (Notify 1) 0 3 0 0 1
+    ∷ gives (Requeue 0 0 (record { 0 = 3 })) 0 3 0 0 0
+    ∷ gives (Naked 1) 0 3 0 0 1
+    ∷ [])
+    ((ready, 3 ∷ 1 ∷ 4 ∷ []) ∷ (condition 1, 2 ∷ []) ∷ [])
+    ((running, 3) ∷ (timer 1, 0) ∷ (timer 2, 9) ∷ (timer 3, 0) ∷ (wakeup 1, 0) ∷ [])
+
+-- Tick wakes in process order, not in the queue's, those whose timer is the clock, and no timer of 0
+abbrev tickInOrder : Machine → Row
+tickInOrder M = play M (sized 4 1 1 0) (3 ∷ 3 ∷ 3 ∷ 3 ∷ [])
+    (gives (Requeue 0 0 (record { 0 = 1 })) 0 2 0 0 0
+    ∷ gives (Enter 1) 0 2 0 1 0
+    ∷ gives (Wait 1 1 (record { 0 = 2 })) 0 3 0 1 0
+    ∷ gives (Requeue 0 0 (record { 0 = 3 })) 0 4 0 0 0
+    ∷ gives (Requeue 0 0 (record { 0 = 4 })) 0 1 0 0 0
+    ∷ gives (Enter 1) 0 1 0 1 0
+    ∷ gives (Wait 1 1 (record { 0 = 2 })) 0 3 0 1 0
+    ∷ gives (Enter 1) 0 3 0 1 0
+    ∷ gives (Wait 1 1 (record { 0 = 0 })) 0 4 0 1 0
+    ∷ gives Tick 0 4 0 0 0
+    ∷ gives Tick 0 4 0 0 2
+    ∷ [])
+    ((ready, 4 ∷ 1 ∷ 2 ∷ []) ∷ (condition 1, 3 ∷ []) ∷ [])
+    ((clock, 2) ∷ (running, 4) ∷ (timer 1, 0) ∷ (timer 2, 0) ∷ (timer 3, 0) ∷ [])
+
+-- Broadcast wakes all, in the queue's order, and counts them
+abbrev broadcastAll : Machine → Row
+broadcastAll M = play M (sized 3 1 1 0) (3 ∷ 3 ∷ 3 ∷ [])
+    (gives (Requeue 0 0 (record { 0 = 1 })) 0 2 0 0 0
+    ∷ gives (Enter 1) 0 2 0 1 0
+    ∷ gives (Wait 1 1 (record { 0 = 7 })) 0 3 0 1 0
+    ∷ gives (Requeue 0 0 (record { 0 = 3 })) 0 1 0 0 0
+    ∷ gives (Enter 1) 0 1 0 1 0
+    ∷ gives (Wait 1 1 (record { 0 = 7 })) 0 3 0 1 0
+    ∷ gives (Broadcast 1) 0 3 0 0 2
+    ∷ [])
+    ((ready, 3 ∷ 2 ∷ 1 ∷ []) ∷ (condition 1, []) ∷ [])
+    ((running, 3) ∷ (timer 1, 0) ∷ (timer 2, 0) ∷ [])
+
+-- Requeue moves behind the equals; only who comes into ready from another queue counts
+abbrev requeues : Machine → Row
+requeues M = play M (sized 3 0 0 2) (4 ∷ 4 ∷ 4 ∷ [])
+    (gives (Requeue 0 0 (record { 0 = 1 })) 0 2 0 0 0
+    ∷ gives (Requeue 0 1 (record { 0 = 2 })) 0 3 0 0 0
+    ∷ gives (Requeue 1 1 (record { 0 = 2 })) 0 3 0 0 0
+    ∷ gives (Requeue 1 2 (record { 0 = 2 })) 0 3 0 0 0
+    ∷ gives (Requeue 0 2 (record { 0 = 3 })) 0 1 0 0 0
+    ∷ gives (Requeue 2 0 (record { 0 = 3 })) 0 1 0 0 1
+    ∷ gives (Requeue 2 0 (record { 0 = 2 })) 0 1 0 0 1
+    ∷ [])
+    ((ready, 1 ∷ 3 ∷ 2 ∷ []) ∷ (park 1, []) ∷ (park 2, []) ∷ [])
+    ((running, 1) ∷ [])
+
+-- SetPriority to the same value moves behind the equals; a newcomer goes before lower ones
+abbrev setPriority : Machine → Row
+setPriority M = play M (sized 3 0 0 0) (4 ∷ 4 ∷ 4 ∷ [])
+    (gives (SetPriority (record { 0 = 4 })) 0 2 0 0 0
+    ∷ gives (SetPriority (record { 0 = 5 })) 0 2 0 0 0
+    ∷ gives (SetPriority (record { 0 = 4 })) 0 3 0 0 0
+    ∷ gives (SetPriority (record { 0 = 0 })) 0 1 0 0 0
+    ∷ [])
+    ((ready, 1 ∷ 2 ∷ 3 ∷ []) ∷ [])
+    ((running, 1) ∷ (priority 1, 4) ∷ (priority 2, 4) ∷ (priority 3, 0) ∷ [])
+
+-- a newcomer goes behind its equals and before those of lower priority
+abbrev newcomer : Machine → Row
+newcomer M = play M (sized 4 0 0 1) (5 ∷ 3 ∷ 1 ∷ 3 ∷ [])
+    (gives (Requeue 0 1 (record { 0 = 2 })) 0 1 0 0 0
+    ∷ gives (Requeue 1 0 (record { 0 = 2 })) 0 1 0 0 1
+    ∷ gives (Requeue 0 1 (record { 0 = 1 })) 0 4 0 0 0
+    ∷ gives (Requeue 1 0 (record { 0 = 1 })) 0 1 0 0 1
+    ∷ [])
+    ((ready, 1 ∷ 4 ∷ 2 ∷ 3 ∷ []) ∷ [])
+    ((running, 1) ∷ [])
+
+-- the clock goes round: at 0 nobody wakes, whose timer is 0 or not; clock 65535 and 1 tick ring at 1
+abbrev roundClock : Machine → Row
+roundClock M = playFrom M (sized 3 1 1 0) (late M)
+    (gives (Wait 1 1 (record { 0 = 1 })) 0 2 0 1 0
+    ∷ gives (Enter 1) 0 2 0 1 0
+    ∷ gives (Wait 1 1 (record { 0 = 0 })) 0 3 0 1 0
+    ∷ gives Tick 0 3 0 0 0
+    ∷ gives Tick 0 3 0 0 1
+    ∷ [])
+    ((ready, 3 ∷ 1 ∷ []) ∷ (condition 1, 2 ∷ []) ∷ [])
+    ((clock, 1) ∷ (running, 3) ∷ (timer 1, 0) ∷ (timer 2, 0) ∷ [])
+
+-- Start's codes at the edges of each count, and with two faults at once: 2 before 3 before 4
+abbrev starting : Row
+starting = record {
+  come = (startCode (sized 3 255 255 8) (0 ∷ 0 ∷ 0 ∷ [])
+      ∷ startCode (sized 3 256 0 0) (0 ∷ 0 ∷ 0 ∷ [])
+      ∷ startCode (sized 3 0 256 0) (0 ∷ 0 ∷ 0 ∷ [])
+      ∷ startCode (sized 0 0 0 0) (8 ∷ [])
+      ∷ startCode (sized 3 0 0 0) (8 ∷ 8 ∷ [])
+      ∷ startCode (sized 3 0 0 0) (0 ∷ 0 ∷ 0 ∷ 0 ∷ [])
+      ∷ startCode (sized 3 0 0 0) (0 ∷ 0 ∷ 8 ∷ [])
+      ∷ []) ∷ [];
+  must = (0 ∷ 2 ∷ 2 ∷ 2 ∷ 3 ∷ 3 ∷ 4 ∷ []) ∷ [];
+}
+
+abbrev scripts : Machine → List Row
+scripts M =
+    nobodyRuns M
+    ∷ refusals M
+    ∷ exitToNobody M
+    ∷ exitFrees M
+    ∷ nakedTwice M
+    ∷ wakeupAndLock M
+    ∷ notifySetsNothing M
+    ∷ notifyFirst M
+    ∷ tickInOrder M
+    ∷ broadcastAll M
+    ∷ requeues M
+    ∷ setPriority M
+    ∷ newcomer M
+    ∷ roundClock M
+    ∷ []
+
+-- the scripts and Start's codes hold of both machines
+both-machines : Holds (starting ∷ scripts model ++ scripts ledger)
+unfolding step decide unless choose nakedly reading ℕ-discrete
+both-machines = refl

@@ -1,0 +1,87 @@
+-- What demand 3 says of states: a history is an accepted Start and then any list of the nine calls, refused ones among them. Assumes nothing.
+use Prim.Native.Nat.{ℕ, _+_}
+use mathlib.Core.Path.{_≡_}
+use mathlib.Core.Logic.{_≢_, _↔_}
+use mathlib.Core.Bool.{Bool, true, false, _&&_}
+use mathlib.Core.List.{List, [], _∷_}
+use lib.Dec.{eqb}
+use Rattle.model.specs.declared.Shape.{Shape}
+use Rattle.model.specs.declared.Call.{Call}
+use Rattle.model.specs.declared.Call.the-variants.{Enter, Exit, Wait, Notify, Broadcast, Naked, Requeue, SetPriority, Tick}
+use Rattle.model.specs.declared.Answer.{Answer}
+use Rattle.model.specs.Queue.{Queue, inside, bit, same, exists, count, first, All}
+use Rattle.model.specs.Queue.Queue.{ready, park, lock, condition}
+use Rattle.model.specs.Field.{priorities}
+use Rattle.model.specs.Field.Field.{running}
+use Rattle.model.specs.Machine.{Machine, State, model, start, after, answers, locked, waiting}
+use Rattle.model.specs.Ledger.{ledger, reading, lies}
+use Rattle.model.specs.Valid.{Valid}
+
+-- ---- entries and leavings of a lock
+
+-- an entry of lock l is an Enter of it with mark 1
+abbrev pub isEntry : ℕ → Call → Answer → Bool
+isEntry l (Enter j) a = eqb j l && eqb (a .mark) 1
+isEntry l (Exit j) a = false
+isEntry l (Wait j c t) a = false
+isEntry l (Notify c) a = false
+isEntry l (Broadcast c) a = false
+isEntry l (Naked c) a = false
+isEntry l (Requeue s d p) a = false
+isEntry l (SetPriority v) a = false
+isEntry l Tick a = false
+
+-- a leaving is an accepted Exit or Wait that names it
+abbrev pub isLeaving : ℕ → Call → Answer → Bool
+isLeaving l (Enter j) a = false
+isLeaving l (Exit j) a = eqb j l && eqb (a .code) 0
+isLeaving l (Wait j c t) a = eqb j l && eqb (a .code) 0
+isLeaving l (Notify c) a = false
+isLeaving l (Broadcast c) a = false
+isLeaving l (Naked c) a = false
+isLeaving l (Requeue s d p) a = false
+isLeaving l (SetPriority v) a = false
+isLeaving l Tick a = false
+
+-- how many of the calls are so answered
+abbrev pub tally : (Call → Answer → Bool) → List Call → List Answer → ℕ
+tally t [] rs = 0
+tally t (c ∷ cs) [] = 0
+tally t (c ∷ cs) (a ∷ rs) = bit (t c a) + tally t cs rs
+
+-- ---- the two machines over a history
+
+-- the state after Start and the calls
+abbrev pub end : (M : Machine) → Shape → List ℕ → List Call → State M
+end M n bytes cs = after M n ((start M n bytes) .0) cs
+
+-- the answers to the calls
+abbrev pub replies : (M : Machine) → Shape → List ℕ → List Call → List Answer
+replies M n bytes cs = answers M n ((start M n bytes) .0) cs
+
+abbrev pub isCondition : Queue → Bool
+isCondition ready = false
+isCondition (park k) = false
+isCondition (lock l) = false
+isCondition (condition c) = true
+
+pub record History (n : Shape) (bytes : List ℕ) (cs : List Call) : Type 0 where
+  -- every answer, field and queue is the ledger's
+  pub same-start : (start model n bytes) .1 ≡ (start ledger n bytes) .1
+  pub same-replies : replies model n bytes cs ≡ replies ledger n bytes cs
+  pub same-fields : (end model n bytes cs) .fields ≡ (end ledger n bytes cs) .fields
+  pub same-queues : (q : Queue) → (end model n bytes cs) .queues q ≡ reading (priorities ((end ledger n bytes cs) .fields)) ((end ledger n bytes cs) .queues) q
+  -- locked, and waiting: a process waits where its newest note says a condition
+  pub same-locked : (l : ℕ) → locked ((end model n bytes cs) .fields) l ≡ locked ((end ledger n bytes cs) .fields) l
+  pub same-waiting : (p : ℕ) → waiting n ((end model n bytes cs) .queues) p ≡ inside (n .processes) p && isCondition (lies ((end ledger n bytes cs) .queues) p)
+  -- each process stands in one queue, once: where its newest note says
+  pub one-queue : (p : ℕ) (q : Queue) → count p ((end model n bytes cs) .queues q) ≡ bit (inside (n .processes) p && same (lies ((end ledger n bytes cs) .queues) p) q)
+  pub real-queue : (p : ℕ) → inside (n .processes) p ≡ true → exists n (lies ((end ledger n bytes cs) .queues) p) ≡ true
+  -- running is the first of ready, and none exactly when ready is empty
+  pub running-first : (end model n bytes cs) .fields running ≡ first ((end model n bytes cs) .queues ready)
+  pub running-none : ((end model n bytes cs) .fields running ≡ 0) ↔ ((end model n bytes cs) .queues ready ≡ [])
+  -- for each lock entries minus leavings is 0 or 1, and 1 exactly when it is locked
+  pub entries : (l : ℕ) → tally (isEntry l) cs (replies ledger n bytes cs) ≡ tally (isLeaving l) cs (replies ledger n bytes cs) + bit (locked ((end ledger n bytes cs) .fields) l)
+  -- no call is refused as unsound: the ledger never gives code 1, and the state stays valid
+  pub never-unsound : All (λ (a : Answer). a .code ≢ 1) (replies ledger n bytes cs)
+  pub valid : Valid n (end model n bytes cs)

@@ -1,0 +1,9 @@
+pub mod Queue
+pub mod Field
+pub mod Rules
+pub mod Machine
+pub mod Ledger
+pub mod Valid
+pub mod History
+pub mod Table
+pub mod Examples
