@@ -1,0 +1,161 @@
+-- The store law: the word that a part's home takes when the part changes makes an area of the changed parts, and no other. A word goes by
+-- the parts that it is home to and by nothing else, and no other slot has its address. Assumes nothing.
+use Prim.Native.Nat.{ℕ, zero, suc, _+_, _-_, _*_, _/_, _%_, _≤_, _<_}
+use native.Mathlib.Nat.{zero-add, suc-add, le-of-eq}
+use native.Mathlib.Decide.{ℕ-discrete}
+use native.Mathlib.Omega.{arith}
+use borrow.Rule.Slice.PartMut.{midOf, putMid}
+use mathlib.Core.Path.{_≡_, refl, sym, ap, ap₂, _∙_}
+use mathlib.Core.Bool.{true}
+use mathlib.Core.List.{List, [], _∷_, _++_, map, append-nil}
+use lib.ListN.{length, getD, drop, take, set, length-append, length-set, length-drop, length-map, take-append-drop, drop-of-length-le, List·getD-append}
+use lib.Seq.{getD-append-add, getD-set-same, getD-set-other, ext-getD, getD-drop, getD-take, length-take-le, take-all, drop-set-lt}
+use Rattle.model.specs.declared.Shape.{Shape}
+use Rattle.model.specs.Queue.{Queue, Queue-discrete}
+use Rattle.model.specs.Queue.Queue.{ready, park, lock, condition}
+use Rattle.model.specs.Field.{Field-discrete}
+use Rattle.model.specs.Field.Field.{clock, running, priority, timer, failed, holder, wakeup}
+use Rattle.model.specs.Rules.{counted}
+use Rattle.model.proofs.Tests.{Case, holds, fails, decided-case, passes, stops}
+use Rattle.area.specs.Layout.{Part, Parts, Part-discrete, alter, Slot, slots, word, span, unit, home, locksAt, conditionsAt, recordsAt, size, at, has, Image, Stored}
+use Rattle.area.specs.Layout.Part.{kept, tail, next, locked, waiting}
+use Rattle.area.specs.Layout.Slot.{Processes, LocksConditions, Parks, Clock, Running, Tail, Holder, Link, Flags, Timer}
+use Rattle.area.specs.Reading.{shapeOf, partsOf}
+use Rattle.area.proofs.Addresses.{slots-long, slot-at, at-one, at-below, cover}
+
+-- ---- one part changed
+
+abbrev part≟ : Discrete Part
+part≟ = Part-discrete (Field-discrete ℕ-discrete) (Queue-discrete ℕ-discrete) ℕ-discrete
+
+pub alter-here : (f : Part) (x : ℕ) (t : Parts) → alter f x t f ≡ x
+alter-here f x t = rw (passes (decided-case (part≟ f f)) (λ h. h refl))
+
+pub alter-away : (f g : Part) (x : ℕ) (t : Parts) → (f ≡ g → ⊥) → alter f x t g ≡ t g
+alter-away f g x t h = rw (stops (decided-case (part≟ f g)) h)
+
+-- ---- a word goes by the parts that it is home to
+
+pub word-ext : (n : Shape) (s t : Parts) (a : Slot) → ((f : Part) → home f ≡ a → s f ≡ t f) → word n s a ≡ word n t a
+word-ext n s t Processes h = refl
+word-ext n s t LocksConditions h = refl
+word-ext n s t Parks h = refl
+word-ext n s t Clock h = h (kept clock) refl
+word-ext n s t Running h = rw (h (kept running) refl)
+word-ext n s t (Tail ready) h = rw (h (tail ready) refl)
+word-ext n s t (Tail (park k)) h = rw (h (tail (park k)) refl)
+word-ext n s t (Tail (lock l)) h = rw (h (tail (lock l)) refl, h (locked l) refl)
+word-ext n s t (Tail (condition c)) h = rw (h (tail (condition c)) refl, h (kept (wakeup c)) refl)
+word-ext n s t (Holder l) h = rw (h (kept (holder l)) refl)
+word-ext n s t (Link p) h = rw (h (kept (priority p)) refl, h (next p) refl, h (kept (failed p)) refl)
+word-ext n s t (Flags p) h = rw (h (waiting p) refl)
+word-ext n s t (Timer p) h = h (kept (timer p)) refl
+
+word-other : (n : Shape) (f : Part) (x : ℕ) (t : Parts) (a : Slot) → (home f ≡ a → ⊥) → word n (alter f x t) a ≡ word n t a
+word-other n f x t a h = word-ext n (alter f x t) t a (λ g e. alter-away f g x t (λ q. h (ap home q ∙ e)))
+
+-- where a part grows, its word grows by its unit
+module _ (n : Shape) (t : Parts) (x : ℕ) where
+  beside : (f g : Part) → (unit f ≡ unit g → ⊥) → alter f x t g ≡ t g
+  beside f g h = alter-away f g x t (λ e. h (ap unit e))
+
+  word-alter : (f : Part) → word n (alter f x t) (home f) + t f * unit f ≡ word n t (home f) + x * unit f
+  word-alter (kept clock) = rw (alter-here (kept clock) x t) (omega arith)
+  word-alter (kept running) = rw (alter-here (kept running) x t) (omega arith)
+  word-alter (kept (priority p)) = rw (alter-here (kept (priority p)) x t, beside (kept (priority p)) (kept (failed p)) (omega arith)) (omega arith)
+  word-alter (kept (timer p)) = rw (alter-here (kept (timer p)) x t) (omega arith)
+  word-alter (kept (failed p)) = rw (alter-here (kept (failed p)) x t, beside (kept (failed p)) (kept (priority p)) (omega arith)) (omega arith)
+  word-alter (kept (holder l)) = rw (alter-here (kept (holder l)) x t) (omega arith)
+  word-alter (kept (wakeup c)) = rw (alter-here (kept (wakeup c)) x t) (omega arith)
+  word-alter (tail ready) = rw (alter-here (tail ready) x t) (omega arith)
+  word-alter (tail (park k)) = rw (alter-here (tail (park k)) x t) (omega arith)
+  word-alter (tail (lock l)) = rw (alter-here (tail (lock l)) x t) (omega arith)
+  word-alter (tail (condition c)) = rw (alter-here (tail (condition c)) x t) (omega arith)
+  word-alter (next p) = rw (alter-here (next p) x t) (omega arith)
+  word-alter (locked l) = rw (alter-here (locked l) x t) (omega arith)
+  word-alter (waiting p) = rw (alter-here (waiting p) x t) (omega arith)
+
+-- ---- what the words of an area say
+
+pub image-ext : (n : Shape) (ws : List ℕ) (s t : Parts) → Image n ws s → ((f : Part) → has n (home f) ≡ true → s f ≡ t f) → Image n ws t
+image-ext n ws s t im h = record {
+  counts = im .counts;
+  long = im .long;
+  words = λ a va. im .words a va ∙ word-ext n s t a (λ f e. h f (rw e va));
+  spans = λ f vf. rw (← h f vf) (im .spans f vf);
+}
+
+module _ (n : Shape) (ws : List ℕ) (t : Parts) (im : Image n ws t) where
+  pub within : (a : Slot) → has n a ≡ true → at n a < length ws
+  within a v = omega (arith, at-below n a v, im .long)
+
+  -- a part is read from its home
+  pub load : (f : Part) → has n (home f) ≡ true → getD ws (at n (home f)) 0 / unit f % span f ≡ t f
+  load (kept clock) v = omega (arith, im .words Clock v, im .spans (kept clock) v)
+  load (kept running) v = omega (arith, im .words Running v, im .spans (kept running) v)
+  load (kept (priority p)) v =
+      omega (arith, im .words (Link p) v, im .spans (kept (priority p)) v, im .spans (next p) v, im .spans (kept (failed p)) v)
+  load (kept (timer p)) v = omega (arith, im .words (Timer p) v, im .spans (kept (timer p)) v)
+  load (kept (failed p)) v =
+      omega (arith, im .words (Link p) v, im .spans (kept (priority p)) v, im .spans (next p) v, im .spans (kept (failed p)) v)
+  load (kept (holder l)) v = omega (arith, im .words (Holder l) v, im .spans (kept (holder l)) v)
+  load (kept (wakeup c)) v =
+      omega (arith, im .words (Tail (condition c)) v, im .spans (tail (condition c)) v, im .spans (kept (wakeup c)) v)
+  load (tail ready) v = omega (arith, im .words (Tail ready) v, im .spans (tail ready) v)
+  load (tail (park k)) v = omega (arith, im .words (Tail (park k)) v, im .spans (tail (park k)) v)
+  load (tail (lock l)) v = omega (arith, im .words (Tail (lock l)) v, im .spans (tail (lock l)) v, im .spans (locked l) v)
+  load (tail (condition c)) v =
+      omega (arith, im .words (Tail (condition c)) v, im .spans (tail (condition c)) v, im .spans (kept (wakeup c)) v)
+  load (next p) v =
+      omega (arith, im .words (Link p) v, im .spans (kept (priority p)) v, im .spans (next p) v, im .spans (kept (failed p)) v)
+  load (locked l) v = omega (arith, im .words (Tail (lock l)) v, im .spans (tail (lock l)) v, im .spans (locked l) v)
+  load (waiting p) v = omega (arith, im .words (Flags p) v, im .spans (waiting p) v)
+
+  pub parts-said : (f : Part) → has n (home f) ≡ true → partsOf n ws f ≡ t f
+  parts-said f v = rw v (load f v)
+
+-- ---- a store
+
+module _ (n : Shape) (ws : List ℕ) (t : Parts) (im : Image n ws t) (f : Part) (x i : ℕ) (ok : has n (home f) ≡ true) (fits : x < span f) (here : i ≡ at n (home f)) where
+  -- of the word that the changed parts ask for
+  store-word : (v : ℕ) → v ≡ word n (alter f x t) (home f) → Stored n ws (lib.ListN.set ws i v) (alter f x t)
+  store-word v e = rw here record {
+    image = record {
+      counts = im .counts;
+      long = simp length-set (im .long);
+      words = λ a va. word-at a va (ℕ-discrete (at n a) (at n (home f)));
+      spans = λ g vg. span-at g vg (part≟ f g);
+    };
+    beyond = drop-set-lt (size n) ws (at n (home f)) v (at-below n (home f) ok);
+  }
+    where
+      word-at : (a : Slot) → has n a ≡ true → Dec (at n a ≡ at n (home f)) → getD (lib.ListN.set ws (at n (home f)) v) (at n a) 0 ≡ word n (alter f x t) a
+      word-at a va (yes q) =
+          rw (at-one n a (home f) va ok q) (getD-set-same ws (at n (home f)) v 0 (within n ws t im (home f) ok) ∙ e)
+      word-at a va (no q) =
+          getD-set-other ws (at n (home f)) (at n a) v 0 q
+          ∙ (im .words a va ∙ sym (word-other n f x t a (λ r. q (ap (at n) (sym r)))))
+
+      span-at : (g : Part) → has n (home g) ≡ true → Dec (f ≡ g) → alter f x t g < span g
+      span-at g vg (yes q) = rw (← q, alter-here f x t) fits
+      span-at g vg (no q) = rw (alter-away f g x t q) (im .spans g vg)
+
+  -- THE STORE LAW: by the old word w and the new word v alone; u and k are the part's unit and span
+  pub store : (u k v w : ℕ) → unit f ≡ u → span f ≡ k → w ≡ getD ws i 0 → v + w / u % k * u ≡ w + x * u → Stored n ws (lib.ListN.set ws i v) (alter f x t)
+  store u k v w eu ek ew q =
+      let g : getD ws (at n (home f)) 0 / unit f % span f ≡ t f = load n ws t im f ok in
+      let e : w ≡ getD ws (at n (home f)) 0 = rw here at ew in
+      let r : w / u % k * u ≡ t f * unit f = rw (← g, e, eu, ek) in
+      let d : w ≡ word n t (home f) = e ∙ im .words (home f) ok in
+      let y : x * unit f ≡ x * u = rw eu in
+      store-word v (omega (arith, word-alter n t x f))
+
+-- what a load has of the word: the part
+pub load-at : (n : Shape) (ws : List ℕ) (t : Parts) → Image n ws t → (f : Part) (i : ℕ) → has n (home f) ≡ true → i ≡ at n (home f) → (u k : ℕ) → unit f ≡ u → span f ≡ k → getD ws i 0 / u % k ≡ t f
+load-at n ws t im f i ok here u k eu ek = rw (here, ← eu, ← ek) (load n ws t im f ok)
+
+pub stored-none : (n : Shape) (ws : List ℕ) (t : Parts) → Image n ws t → Stored n ws ws t
+stored-none n ws t im = record { image = im; beyond = refl }
+
+pub stored-then : {n : Shape} {a b c : List ℕ} {s t : Parts} → Stored n a b s → Stored n b c t → Stored n a c t
+stored-then x y = record { image = y .image; beyond = y .beyond ∙ x .beyond }

@@ -1,0 +1,71 @@
+-- `area::put_in` meets its contract: the records are lent to the rings, and what comes back changes one ring. Assumes nothing.
+use native.Mathlib.Omega.{arith}
+use mathlib.Core.Path.{_≡_, refl, ap, _∙_}
+use Prim.Native.Nat.{_<_, _/_, _%_}
+use lib.ListN.{length, getD}
+use borrow.Author.Needs.{needs}
+use Rattle.area.proofs.Relinks.{tail-below, tail-again, joins-stands, joins-ring, joins-falls, joined-relinks}
+use Rattle.ring.proofs.Rings.{ring-tail-small}
+use Rattle.area.proofs.put_in.Statement.{statement}
+use Rattle.area.proofs.put_in.Tie as tie
+
+records-at-requires : tie.Need-records-at-requires
+records-at-requires c κs = search needs
+
+mul-word : tie.Need-mul-word
+mul-word c = let j = c .before .before .pre in let h = tail-below (j .queue) (j .rings) (j .given) (j .here) in search needs
+
+slice-read-word : tie.Need-slice-read-word
+slice-read-word c = let j = c .before .before .before .pre in tail-below (j .queue) (j .rings) (j .given) (j .here)
+
+mul-join : tie.Need-mul-join
+mul-join c = search needs
+
+sub-join : tie.Need-sub-join
+sub-join c = search needs
+
+part-join-start : tie.Need-part-join-start
+part-join-start c = search needs
+
+part-join-end : tie.Need-part-join-end
+part-join-end c = search needs
+
+next-field-requires : tie.Need-next-field-requires
+next-field-requires c κs = search needs
+
+join-requires : tie.Need-join-requires
+join-requires c κs = let j = c .before .before .before .before .before .pre in (joins-stands j (c .before .before .before .records-at .result) (c .next-field .result) (c .before .before .before .records-at .ensures) (c .next-field .ensures), (_, joins-ring j (c .before .before .before .records-at .result) (c .next-field .result) (c .before .before .before .records-at .ensures) (c .next-field .ensures), joins-falls j (c .before .before .before .records-at .result) (c .next-field .result) (c .before .before .before .records-at .ensures) (c .next-field .ensures), j .out (j .queue)))
+
+with-next-requires : tie.Need-with-next-requires
+with-next-requires c κs = let j = c .before .before .before .before .before .before .before .before .pre in let l = c .before .before .join .ensures _ (joins-ring j (c .before .before .before .before .before .before .records-at .result) (c .before .before .before .next-field .result) (c .before .before .before .before .before .before .records-at .ensures) (c .before .before .before .next-field .ensures)) (joins-falls j (c .before .before .before .before .before .before .records-at .result) (c .before .before .before .next-field .result) (c .before .before .before .before .before .before .records-at .ensures) (c .before .before .before .next-field .ensures)) (j .out (j .queue)) in ring-tail-small _ (l .ring)
+
+mul-area : tie.Need-mul-area
+mul-area c = let j = c .before .before .before .before .before .before .before .before .before .pre in let h = tail-again (j .queue) (c .before .before .before .before .before .before .before .records-at .result) (c .before .before .before .join .last .0) (j .rings) (j .given) (j .here) (c .before .before .before .before .before .before .before .records-at .ensures) in search needs
+
+slice-write-area : tie.Need-slice-write-area
+slice-write-area c = let j = c .before .before .before .before .before .before .before .before .before .pre in tail-again (j .queue) (c .before .before .before .before .before .before .before .records-at .result) (c .before .before .before .join .last .0) (j .rings) (j .given) (j .here) (c .before .before .before .before .before .before .before .records-at .ensures)
+
+same-length : tie.Need-same-length
+same-length c = search needs
+
+returns : tie.Need-returns
+returns c = λ j. joined-relinks j (c .before .before .before .before .before .before .before .records-at .result) (c .before .before .before .before .next-field .result) (c .before .before .before .before .before .before .before .records-at .ensures) (c .before .before .before .before .next-field .ensures) (c .before .before .before .join .last .0) (c .before .before .before .join .result) (c .with-next .result) (c .before .before .before .join .ensures _ (joins-ring j (c .before .before .before .before .before .before .before .records-at .result) (c .before .before .before .before .next-field .result) (c .before .before .before .before .before .before .before .records-at .ensures) (c .before .before .before .before .next-field .ensures)) (joins-falls j (c .before .before .before .before .before .before .before .records-at .result) (c .before .before .before .before .next-field .result) (c .before .before .before .before .before .before .before .records-at .ensures) (c .before .before .before .before .next-field .ensures)) (j .out (j .queue))) (c .with-next .ensures)
+
+pub put-in-spec : {M : Type 1} → statement M
+put-in-spec =
+    tie.close
+    (tie.spec
+    records-at-requires
+    mul-word
+    slice-read-word
+    mul-join
+    sub-join
+    part-join-start
+    part-join-end
+    next-field-requires
+    join-requires
+    with-next-requires
+    mul-area
+    slice-write-area
+    same-length
+    returns)

@@ -1,0 +1,55 @@
+-- What the functions of this crate promise: an area that holds a state becomes one that holds another. Assumes nothing.
+use Prim.Native.Nat.{ℕ}
+use mathlib.Core.Path.{_≡_}
+use mathlib.Core.Bool.{true}
+use mathlib.Core.List.{List}
+use lib.ListN.{drop}
+use Rattle.model.specs.declared.Shape.{Shape}
+use Rattle.model.specs.Queue.{Queue, bit, exists, member, move}
+use Rattle.model.specs.Queue.Queue.{ready}
+use Rattle.model.specs.Field.{Field, Fields, put, priorities}
+use Rattle.model.specs.Machine.{State, model, dispatch}
+use Rattle.model.specs.Valid.{Placed}
+use Rattle.model.specs.History.{isCondition}
+use Rattle.area.specs.Layout.{at, size, Image}
+use Rattle.area.specs.Layout.Slot.{Tail}
+use Rattle.area.specs.State.{laid}
+
+-- the words ws are an area of these counts that holds the state
+pub record Holds (n : Shape) (ws : List ℕ) (s : State model) : Type 0 where
+  pub placed : Placed n s
+  pub image : Image n ws (laid n s)
+
+-- the words ws are an area of these counts
+abbrev pub Held : Shape → List ℕ → Type 0
+Held n ws = (s : State model) × Holds n ws s
+
+-- from one list of words to another that holds the state, with nothing changed beyond
+pub record Becomes (n : Shape) (old new : List ℕ) (s : State model) : Type 0 where
+  pub holds : Holds n new s
+  pub beyond : drop (size n) new ≡ drop (size n) old
+
+-- the state with one field changed
+abbrev pub with : Field → ℕ → State model → State model
+with f v s = record { fields = put f v (s .fields); queues = s .queues }
+
+-- the state with p moved to q, by the priorities that its fields now have
+abbrev pub sent : ℕ → Queue → State model → State model
+sent p q s = record { fields = s .fields; queues = move (priorities (s .fields)) (s .queues) p q }
+
+-- the state after dispatch
+abbrev pub dispatched : State model → State model
+dispatched s = record { fields = dispatch (s .queues ready) (s .fields); queues = s .queues }
+
+-- p stands in one queue of a state and is to move to another, whose tails stand at these places; waits is its waiting bit there
+pub record Moves (n : Shape) (ws : List ℕ) (at-from at-to p waits : ℕ) : Type 0 where
+  pub state : State model
+  pub from : Queue
+  pub to : Queue
+  pub holds : Holds n ws state
+  pub given-from : exists n from ≡ true
+  pub given-to : exists n to ≡ true
+  pub here-from : at-from ≡ at n (Tail from)
+  pub here-to : at-to ≡ at n (Tail to)
+  pub stands : member p (state .queues from) ≡ true
+  pub waits-there : waits ≡ bit (isCondition to)

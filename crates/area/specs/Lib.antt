@@ -1,0 +1,6 @@
+pub mod Layout
+pub mod State
+pub mod Reading
+pub mod Sound
+pub mod Holds
+pub mod Rings

@@ -1,0 +1,8 @@
+pub mod Links
+pub mod Lists
+pub mod Places
+pub mod Rings
+pub mod Walk
+pub mod Moves
+pub mod Frame
+pub mod Examples

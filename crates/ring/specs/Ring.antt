@@ -1,0 +1,66 @@
+-- What a ring of processes is, and what joining and leaving it promise. Assumes nothing.
+use mathlib.Core.Path.{_≡_}
+use mathlib.Core.Bool.{Bool, true, not, cond}
+use mathlib.Core.List.{List, [], _∷_}
+use Prim.Native.Nat.{ℕ, zero, suc, _≤_}
+use lib.Dec.{eqb, leb}
+use lib.ListN.{length}
+use Rattle.model.specs.Queue.{member, count, remove, insert}
+use Rattle.ring.specs.declared.Spot.{Spot}
+use Rattle.ring.specs.Link.{Stands, next, priority, point, wedge}
+
+-- ---- rings
+
+-- the last of a ∷ xs
+abbrev pub lastOf : ℕ → List ℕ → ℕ
+lastOf a [] = a
+lastOf a (x ∷ xs) = lastOf x xs
+
+-- next by next, the first of xs comes after a, and each other of xs after the one before it
+abbrev pub Linked : (ℕ → ℕ) → ℕ → List ℕ → Type 0
+Linked nx a [] = Unit {0}
+Linked nx a (x ∷ xs) = (nx a ≡ x) × Linked nx x xs
+
+-- xs are the processes of the ring of tail in r, from the first to the last; tail is the last, 0 if there is none
+pub record Ring (r : List ℕ) (tail : ℕ) (xs : List ℕ) : Type 0 where
+  pub linked : Linked (next r) tail xs
+  pub ends : lastOf 0 xs ≡ tail
+  pub stand : (x : ℕ) → member x xs ≡ true → Stands r x
+  pub once : (x : ℕ) → count x xs ≤ 1
+
+-- ---- places in a ring
+
+-- the processes ahead of the first that fails a test
+abbrev pub takeWhile : (ℕ → Bool) → List ℕ → List ℕ
+takeWhile t [] = []
+takeWhile t (x ∷ xs) = cond (t x) (x ∷ takeWhile t xs) []
+
+-- the processes ahead of p, which stands among xs
+abbrev pub aheadOf : ℕ → List ℕ → List ℕ
+aheadOf p xs = takeWhile (λ x. not (eqb x p)) xs
+
+-- the processes ahead of p once it has joined: those before the first that is lower than p
+abbrev pub aheadFor : (ℕ → ℕ) → ℕ → List ℕ → List ℕ
+aheadFor pr p xs = takeWhile (λ x. leb (pr p) (pr x)) xs
+
+-- s is the place in the ring of tail that has the processes us ahead
+pub record At (s : Spot) (tail : ℕ) (us : List ℕ) : Type 0 where
+  pub follows : s .prev ≡ lastOf tail us
+  pub counts : s .ahead ≡ length us
+
+-- ---- moves
+
+-- p has left xs: whoever was before it is before whoever was behind it, and t is the new tail
+pub record Left (r r′ : List ℕ) (tail p t : ℕ) (xs : List ℕ) : Type 0 where
+  pub ring : Ring r′ t (remove p xs)
+  pub words : r′ ≡ point r (lastOf tail (aheadOf p xs)) (next r p)
+
+-- whom p follows in the ring of tail with the processes us ahead: itself if the ring is empty
+abbrev pub leader : ℕ → ℕ → List ℕ → ℕ
+leader zero p us = p
+leader (suc t) p us = lastOf (suc t) us
+
+-- p has joined xs behind every process of equal or higher priority, and t is the new tail
+pub record Joined (r r′ : List ℕ) (tail p t : ℕ) (xs : List ℕ) : Type 0 where
+  pub ring : Ring r′ t (insert (priority r) p xs)
+  pub words : r′ ≡ wedge r (leader tail p (aheadFor (priority r) p xs)) p
