@@ -1,0 +1,224 @@
+-- A sound area passes: each clause of its soundness gives what one part of the check asks for. Assumes nothing.
+use Prim.Native.Nat.{ℕ, zero, suc, _+_, _-_, _/_, _%_, _≤_}
+use native.Mathlib.Omega.{arith}
+use mathlib.Core.Path.{_≡_, refl, sym, _∙_, ap, subst}
+use mathlib.Core.Bool.{Bool, true, false, not, cond, true≢false}
+use mathlib.Core.List.{List, [], _∷_}
+use lib.Dec.{eqb}
+use lib.ListN.{getD}
+use Rattle.model.specs.declared.Shape.{Shape}
+use Rattle.model.specs.Queue.{Queue, inside, bit, exists, member, first}
+use Rattle.model.specs.Queue.Queue.{ready, park, lock, condition}
+use Rattle.model.specs.Field.{priorities}
+use Rattle.model.specs.Field.Field.{priority, holder, wakeup}
+use Rattle.model.specs.Machine as machine
+use Rattle.model.specs.History.{isCondition}
+use Rattle.model.proofs.Tests.{eqb-yes, eqb-no, inside-bounds}
+use Rattle.model.proofs.Lists.{member-here}
+use Rattle.model.proofs.Places.{stands-at, waiting-is}
+use Rattle.ring.specs.Ring.{lastOf, Linked}
+use Rattle.area.specs.Layout.{at, recordsAt}
+use Rattle.area.specs.Layout.Part.{kept, tail, next, waiting}
+use Rattle.area.specs.Layout.Slot.{Parks, Running, Tail, Holder, Link, Flags}
+use Rattle.area.specs.State.{last}
+use Rattle.area.specs.Reading.{shapeOf, partsOf, readFrom, stateOf}
+use Rattle.area.specs.Sound.{Sound}
+use Rattle.area.proofs.Whole.{Counts, counts-in}
+use Rattle.area.proofs.Rings.{last-member, ring-ext, member-inside}
+use Rattle.area.proofs.States.{Words}
+use Rattle.sound.specs.Walk.{recordAt, linkIn, nextIn, kindOf, tailWord, holderWord}
+use Rattle.sound.specs.Parts.{Counted, Runs}
+use Rattle.sound.proofs.Tests.{Fits, Headed}
+use Rattle.sound.proofs.Chains.{Member, member-all}
+use Rattle.sound.proofs.Lists.{hits, every, every-once}
+use Rattle.sound.proofs.Visits.{reading, total, Visited, tail-part, next-part, total-hits}
+use Rattle.sound.proofs.Whole.{Whole, falling-ext}
+
+-- what is read is a chain
+chain-read : (nx : ℕ → ℕ) (t k a p : ℕ) → nx a ≡ p → Linked nx a (readFrom nx t k p)
+chain-read nx t zero a p e = tt
+chain-read nx t (suc k) a p e = (e, go (eqb p t) (chain-read nx t k p (nx p) refl))
+  where
+    go : (b : Bool) → Linked nx p (readFrom nx t k (nx p)) → Linked nx p (cond b [] (readFrom nx t k (nx p)))
+    go true c = tt
+    go false c = c
+
+module _ (ws : List ℕ) (small : Words ws) (S : Sound ws) where
+  abbrev n : Shape
+  n = shapeOf ws
+
+  abbrev P : ℕ
+  P = getD ws 0 0
+
+  abbrev r : ℕ
+  r = recordsAt (shapeOf ws)
+
+  counts : Counts n
+  counts = counts-in n (S .valid .placed .counts)
+
+  counted : Counted ws
+  counted =
+      let c = counts in let l = S .long in
+      record { header = omega arith; some-process = c .some; processes = c .processes; unnamed = S .tidy Parks refl; parks = c .parks; long = l }
+
+  -- ---- the words of a queue
+
+  tail-small : (q : Queue) → exists n q ≡ true → tailWord ws q / 8 ≤ P
+  tail-small ready h = S .tidy (Tail ready) refl .range
+  tail-small (park k) h = S .tidy (Tail (park k)) h .range
+  tail-small (lock l) h = S .tidy (Tail (lock l)) h .range
+  tail-small (condition c) h = S .tidy (Tail (condition c)) h .range
+
+  headed : (q : Queue) → exists n q ≡ true → Headed P (kindOf q) (tailWord ws q) (holderWord ws q)
+  headed ready h =
+      let t = S .tidy (Tail ready) refl in
+      record { tail = t .range; holder = omega arith; whole = refl; held = λ z. absurd (z refl); plain = λ e z. let l = t .low in omega arith; wakes = λ e z. absurd (omega arith) }
+  headed (park k) h =
+      let t = S .tidy (Tail (park k)) h in
+      record { tail = t .range; holder = omega arith; whole = refl; held = λ z. absurd (z refl); plain = λ e z. let l = t .low in omega arith; wakes = λ e z. absurd (omega arith) }
+  headed (lock l) h =
+      let t = S .tidy (Tail (lock l)) h in
+      let v = S .tidy (Holder l) h in
+      let low = t .low in let lov = v .low in let hi = v .range in let c = counts .processes in
+      let b : tailWord ws (lock l) / 1 % 2 ≡ bit (not (eqb (holderWord ws (lock l) / 8 % 1024) 0)) = rw h at (S .locks l) in
+      record {
+        tail = t .range;
+        holder = hi;
+        whole = omega arith;
+        held = λ z. let o : tailWord ws (lock l) / 1 % 2 ≡ 1 = b ∙ rw (eqb-no (holderWord ws (lock l) / 8 % 1024) 0 (λ e. z (omega arith))) in omega arith;
+        plain = λ e z. let o : tailWord ws (lock l) / 1 % 2 ≡ 0 = b ∙ rw (eqb-yes (holderWord ws (lock l) / 8 % 1024) 0 (omega arith)) in omega arith;
+        wakes = λ e z. absurd (omega arith);
+      }
+  headed (condition c) h =
+      let t = S .tidy (Tail (condition c)) h in
+      let low = t .low in
+      record {
+        tail = t .range;
+        holder = omega arith;
+        whole = refl;
+        held = λ z. absurd (z refl);
+        plain = λ e z. absurd (z refl);
+        wakes = λ e z. (low, woken);
+      }
+    where
+      woken : tailWord ws (condition c) % 8 ≡ 1 → tailWord ws (condition c) ≡ 1
+      woken e =
+          let o : partsOf n ws (kept (wakeup c)) ≡ 1 = rw h (omega arith) in
+          let empty : reading ws (condition c) ≡ [] = S .valid .wakeups c (rw (eqb-no (partsOf n ws (kept (wakeup c))) 0 (λ z. omega arith))) in
+          let z : 0 ≡ tailWord ws (condition c) / 8 = ap last (sym empty) ∙ (S .closed (condition c) ∙ tail-part ws (condition c) h (counts .processes) (tail-small (condition c) h)) in
+          omega arith
+
+  -- ---- its ring
+
+  ends : (q : Queue) → exists n q ≡ true → last (reading ws q) ≡ tailWord ws q / 8
+  ends q h = S .closed q ∙ tail-part ws q h (counts .processes) (tail-small q h)
+
+  is-inside : (x : ℕ) (q : Queue) → member x (reading ws q) ≡ true → inside P x ≡ true
+  is-inside x q m = member-inside n (stateOf ws) (S .valid .placed) x q m
+
+  linked : (q : Queue) → exists n q ≡ true → Linked (nextIn ws r) (tailWord ws q / 8) (reading ws q)
+  linked q h =
+      subst (λ (t : ℕ). Linked (nextIn ws r) t (reading ws q)) (ends q h)
+      (ring-ext nx (nextIn ws r) (reading ws q) (λ x m. next-part ws x (is-inside x q m))
+      (subst (λ (t : ℕ). Linked nx t (reading ws q)) (sym (S .closed q)) (go (eqb (partsOf n ws (tail q)) 0))))
+    where
+      nx : ℕ → ℕ
+      nx x = partsOf n ws (next x)
+
+      go : (b : Bool) → Linked nx (partsOf n ws (tail q)) (cond b [] (readFrom nx (partsOf n ws (tail q)) P (nx (partsOf n ws (tail q)))))
+      go true = tt
+      go false = chain-read nx (partsOf n ws (tail q)) P (partsOf n ws (tail q)) (nx (partsOf n ws (tail q))) refl
+
+  -- waiting, timer and failed of a member
+  waits-is : (x : ℕ) (q : Queue) → member x (reading ws q) ≡ true → machine.waiting n (reading ws) x ≡ isCondition q
+  waits-is x q m =
+      let p = S .valid .placed in
+      let s = stands-at P (reading ws) (p .place) (p .once) x q m in
+      waiting-is n (reading ws) (p .place) (p .once) x (p .real x) ∙ rw (s .0, s .1)
+
+  flag : (x : ℕ) (q : Queue) → member x (reading ws q) ≡ true → getD ws (recordAt r x + 1) 0 / 2 % 2 ≡ bit (isCondition q)
+  flag x q m = let e : getD ws (recordAt r x + 1) 0 / 2 % 2 ≡ bit (machine.waiting n (reading ws) x) = rw (is-inside x q m) at (S .waits x) in e ∙ ap bit (waits-is x q m)
+
+  idle : (x : ℕ) (q : Queue) → member x (reading ws q) ≡ true → isCondition q ≡ false → (getD ws (recordAt r x + 1) 0 ≡ 0) × (getD ws (recordAt r x + 2) 0 ≡ 0) × (linkIn ws r x % 4 ≡ 0)
+  idle x q m e =
+      let i = is-inside x q m in
+      let f = S .tidy (Flags x) i in let l = S .tidy (Link x) i in
+      let b : getD ws (recordAt r x + 1) 0 / 2 % 2 ≡ 0 = flag x q m ∙ rw e in
+      let t : getD ws (recordAt r x + 2) 0 / 1 % 65536 ≡ 0 = rw i at (S .valid .timers x (waits-is x q m ∙ e)) in
+      let s = small (recordAt r x + 2) in
+      (omega arith, omega arith, l .1)
+
+  fits : (x : ℕ) (q : Queue) → member x (reading ws q) ≡ true → Fits (kindOf q) (linkIn ws r x) (getD ws (recordAt r x + 1) 0) (getD ws (recordAt r x + 2) 0)
+  fits x ready m = record { waits = λ z. absurd (omega arith); idle = λ z. idle x ready m refl; blocked = λ z. absurd (omega arith) }
+  fits x (park k) m = record { waits = λ z. absurd (omega arith); idle = λ z. idle x (park k) m refl; blocked = λ z. absurd (omega arith) }
+  fits x (lock l) m =
+      let i = is-inside x (lock l) m in
+      let b : linkIn ws r x / 4 % 2 ≡ 1 = rw i at (S .valid .blocked l x m) in
+      let t = S .tidy (Link x) i in
+      record { waits = λ z. absurd (omega arith); idle = λ z. idle x (lock l) m refl; blocked = λ z. omega arith }
+  fits x (condition c) m =
+      let i = is-inside x (condition c) m in
+      let b : linkIn ws r x / 4 % 2 ≡ 0 = rw i at (S .valid .asleep c x m) in
+      let t = S .tidy (Link x) i in let f = S .tidy (Flags x) i in
+      let g : getD ws (recordAt r x + 1) 0 / 2 % 2 ≡ 1 = flag x (condition c) m in
+      record { waits = λ z. (omega arith, omega arith); idle = λ z. absurd (z refl); blocked = λ z. absurd (omega arith) }
+
+  not-zero : (x : ℕ) (q : Queue) → member x (reading ws q) ≡ true → x ≡ 0 → ⊥
+  not-zero x q m e = let b = inside-bounds P x (is-inside x q m) in omega arith
+
+  free : (x : ℕ) (q : Queue) → exists n q ≡ true → member x (reading ws q) ≡ true → x ≡ holderWord ws q / 8 → ⊥
+  free x ready h m e = not-zero x ready m e
+  free x (park k) h m e = not-zero x (park k) m e
+  free x (lock l) h m e =
+      let v = S .tidy (Holder l) h .range in let c = counts .processes in
+      let o : partsOf n ws (kept (holder l)) ≡ x = rw h (omega arith) in
+      true≢false (sym m ∙ rw o at (S .valid .holders l))
+  free x (condition c) h m e = not-zero x (condition c) m e
+
+  visited : (q : Queue) → exists n q ≡ true → Visited ws q
+  visited q h = record {
+    head = headed q h;
+    ring = record {
+      linked = linked q h;
+      ends = ends q h;
+      members = member-all (Member ws r P (kindOf q) (holderWord ws q / 8)) (reading ws q) (λ x m. record { within = is-inside x q m; free = free x q h m; fits = fits x q m });
+      falls = falling-ext (priorities (stateOf ws .fields)) (λ x. linkIn ws r x / 8192) (reading ws q) level (S .valid .placed .falls q);
+    };
+  }
+    where
+      level : (x : ℕ) → member x (reading ws q) ≡ true → partsOf n ws (kept (priority x)) ≡ linkIn ws r x / 8192
+      level x m = let s = small (recordAt r x) in rw (is-inside x q m) (omega arith)
+
+  -- ---- running
+
+  runs : Runs ws r P
+  runs = go (reading ws ready) (linked ready refl) (ends ready refl) (λ x m. is-inside x ready m) (S .valid .runs)
+    where
+      go : (ys : List ℕ) → Linked (nextIn ws r) (getD ws 5 0 / 8) ys → lastOf 0 ys ≡ getD ws 5 0 / 8 → ((x : ℕ) → member x ys ≡ true → inside P x ≡ true) → getD ws 4 0 / 8 % 1024 ≡ first ys → Runs ws r P
+      go [] l e m f =
+          let t = S .tidy Running refl in let a = t .range in let b = t .low in let c = counts .processes in
+          record { nobody = λ z. omega arith; tail = tail-small ready refl; somebody = λ z. absurd (z (sym e)) }
+      go (y ∷ ys) l e m f =
+          let t = S .tidy Running refl in let a = t .range in let b = t .low in let c = counts .processes in
+          let i = m y (member-here y ys) in
+          let u = inside-bounds P y i in
+          let last-in = inside-bounds P (lastOf y ys) (m (lastOf y ys) (last-member y ys)) in
+          let o = l .0 in
+          let still : linkIn ws r y / 4 % 2 ≡ 0 = rw (f, i) at (S .valid .steady) in
+          record {
+            nobody = λ z. absurd (omega arith);
+            tail = tail-small ready refl;
+            somebody = λ z. record { some = omega arith; within = omega arith; first = omega arith; clear = rw o still };
+          }
+
+  -- ---- all together
+
+  once : (x : ℕ) → total ws x (every n) ≡ bit (inside P x)
+  once x = total-hits ws x (inside P x) (S .valid .placed .place x) (S .valid .placed .once x) (every n) ∙ go (inside P x) refl
+    where
+      go : (b : Bool) → inside P x ≡ b → cond (inside P x) (hits (S .valid .placed .place x) (every n)) 0 ≡ bit (inside P x)
+      go true i = rw i (every-once n (S .valid .placed .place x) (S .valid .placed .real x i))
+      go false i = rw i
+
+  pub sound-whole : Whole ws
+  sound-whole = record { counts = counted; runs = runs; each = visited; once = once }

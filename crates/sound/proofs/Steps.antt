@@ -1,0 +1,142 @@
+-- The checks step by step: what each way out of the code says of the functions of specs/, on values. Assumes nothing.
+use Prim.Native.Nat.{ℕ, zero, suc, _+_, _-_, _*_, _/_, _%_, _≤_, _<_}
+use native.Mathlib.Decide.{ℕ-discrete}
+use native.Mathlib.Omega.{arith}
+use mathlib.Core.Path.{_≡_, refl}
+use mathlib.Core.Bool.{Bool, true, false, not, _&&_, and-false}
+use mathlib.Core.List.{List, _∷_}
+use mathlib.Core.Option.{none, some}
+use lib.Dec.{eqb}
+use lib.ListN.{length}
+use borrow.Author.Tests.{lt-ltb, le-ltb, le-leb, lt-leb, eq-eqb, ne-eqb}
+use Rattle.model.specs.Queue.{member}
+use Rattle.sound.specs.Walk.{isFresh, fitting, linkIn, nextIn, fitsIn, walked, ringed, heading, headAt}
+
+-- ---- whether a process is fresh
+
+module _ (P o p : ℕ) (js : List ℕ) where
+  pub fresh-none : p ≡ 0 → false ≡ isFresh P o p js
+  unfolding isFresh
+  fresh-none e = rw (eq-eqb p 0 e)
+
+  pub fresh-out : (p ≡ 0 → ⊥) → P < p → false ≡ isFresh P o p js
+  unfolding isFresh
+  fresh-out n l = rw (ne-eqb p 0 n, lt-ltb P p l)
+
+  pub fresh-held : (p ≡ 0 → ⊥) → p ≤ P → p ≡ o → false ≡ isFresh P o p js
+  unfolding isFresh
+  fresh-held n l e = rw (ne-eqb p 0 n, le-ltb P p l, eq-eqb p o e)
+
+  pub fresh-met : (p ≡ 0 → ⊥) → p ≤ P → (p ≡ o → ⊥) → (b : Bool) → b ≡ member p js → not b ≡ isFresh P o p js
+  unfolding isFresh
+  fresh-met n l m b e = rw (ne-eqb p 0 n, le-ltb P p l, ne-eqb p o m, e)
+
+-- ---- whether a record fits
+
+module _ (k b w f t : ℕ) where
+  pub fit-rises : b < w / 8192 → false ≡ fitting k b w f t
+  unfolding fitting
+  fit-rises h = rw (lt-leb (w / 8192) b h)
+
+  module _ (h : w / 8192 ≤ b) where
+    pub fit-idle : k ≡ 2 → (f ≡ 2 → ⊥) → false ≡ fitting k b w f t
+    unfolding fitting
+    fit-idle e n = rw (le-leb (w / 8192) b h, eq-eqb k 2 e, ne-eqb f 2 n)
+
+    pub fit-waits : k ≡ 2 → f ≡ 2 → eqb (w % 8) 0 ≡ fitting k b w f t
+    unfolding fitting
+    fit-waits e d = rw (le-leb (w / 8192) b h, eq-eqb k 2 e, eq-eqb f 2 d)
+
+    pub fit-flagged : (k ≡ 2 → ⊥) → (f ≡ 0 → ⊥) → false ≡ fitting k b w f t
+    unfolding fitting
+    fit-flagged e n = rw (le-leb (w / 8192) b h, ne-eqb k 2 e, ne-eqb f 0 n)
+
+    pub fit-timed : (k ≡ 2 → ⊥) → f ≡ 0 → (t ≡ 0 → ⊥) → false ≡ fitting k b w f t
+    unfolding fitting
+    fit-timed e d n = rw (le-leb (w / 8192) b h, ne-eqb k 2 e, eq-eqb f 0 d, ne-eqb t 0 n)
+
+    pub fit-blocked : (k ≡ 2 → ⊥) → f ≡ 0 → t ≡ 0 → k ≡ 1 → eqb (w % 8) 4 ≡ fitting k b w f t
+    unfolding fitting
+    fit-blocked e d g l = rw (le-leb (w / 8192) b h, ne-eqb k 2 e, eq-eqb f 0 d, eq-eqb t 0 g, eq-eqb k 1 l)
+
+    pub fit-plain : (k ≡ 2 → ⊥) → f ≡ 0 → t ≡ 0 → (k ≡ 1 → ⊥) → eqb (w % 4) 0 ≡ fitting k b w f t
+    unfolding fitting
+    fit-plain e d g l = rw (le-leb (w / 8192) b h, ne-eqb k 2 e, eq-eqb f 0 d, eq-eqb t 0 g, ne-eqb k 1 l)
+
+-- ---- whether a queue's words are in order
+
+module _ (P k w v : ℕ) where
+  pub head-tail : P < w / 8 → false ≡ heading P k w v
+  unfolding heading
+  head-tail h = rw (lt-leb (w / 8) P h)
+
+  module _ (a : w / 8 ≤ P) where
+    pub head-holder : P < v / 8 → false ≡ heading P k w v
+    unfolding heading
+    head-holder h = rw (le-leb (w / 8) P a, lt-leb (v / 8) P h)
+
+    module _ (b : v / 8 ≤ P) where
+      pub head-unnamed : (v % 8 ≡ 0 → ⊥) → false ≡ heading P k w v
+      unfolding heading
+      head-unnamed n = rw (le-leb (w / 8) P a, le-leb (v / 8) P b, ne-eqb (v % 8) 0 n)
+
+      module _ (c : v % 8 ≡ 0) where
+        pub head-held : (v ≡ 0 → ⊥) → eqb (w % 8) 1 ≡ heading P k w v
+        unfolding heading
+        head-held n = rw (le-leb (w / 8) P a, le-leb (v / 8) P b, eq-eqb (v % 8) 0 c, ne-eqb v 0 n)
+
+        pub head-wakeup : v ≡ 0 → k ≡ 2 → w ≡ 1 → true ≡ heading P k w v
+        unfolding heading
+        head-wakeup d e h = rw (le-leb (w / 8) P a, le-leb (v / 8) P b, eq-eqb (v % 8) 0 c, eq-eqb v 0 d, eq-eqb k 2 e, eq-eqb w 1 h)
+
+        pub head-plain : v ≡ 0 → (k ≡ 2 → w ≡ 1 → ⊥) → eqb (w % 8) 0 ≡ heading P k w v
+        unfolding heading
+        head-plain d n = rw (le-leb (w / 8) P a, le-leb (v / 8) P b, eq-eqb (v % 8) 0 c, eq-eqb v 0 d, both) refl
+          where
+            both : eqb k 2 && eqb w 1 ≡ false
+            both = elim (ℕ-discrete k 2) [ yes e ↦ rw (ne-eqb w 1 (n e), and-false) | no e ↦ rw (ne-eqb k 2 e) ]
+
+-- where a queue's words begin
+pub head-at-lock : (b k i : ℕ) → k ≡ 1 → b + i * 2 ≡ headAt b k i
+unfolding headAt
+head-at-lock b k i e = rw (eq-eqb k 1 e)
+
+pub head-at-other : (b k i : ℕ) → (k ≡ 1 → ⊥) → b + i ≡ headAt b k i
+unfolding headAt
+head-at-other b k i e = rw (ne-eqb k 1 e)
+
+-- ---- the walk
+
+module _ (ws : List ℕ) (r P k o t : ℕ) where
+  pub walk-out : (n p b : ℕ) (js : List ℕ) → n ≤ 0 → walked ws r P k o t n p b js ≡ none
+  unfolding walked
+  walk-out zero p b js l = refl
+  walk-out (suc n) p b js l = absurd (omega arith)
+
+  pub walk-stale : (n p b : ℕ) (js : List ℕ) → isFresh P o p js ≡ false → walked ws r P k o t n p b js ≡ none
+  unfolding walked
+  walk-stale zero p b js e = refl
+  walk-stale (suc n) p b js e = rw e
+
+  pub walk-unfit : (n p b : ℕ) (js : List ℕ) → fitsIn ws r k b p ≡ false → walked ws r P k o t n p b js ≡ none
+  unfolding walked
+  walk-unfit zero p b js e = refl
+  walk-unfit (suc n) p b js e = rw (e, and-false)
+
+  pub walk-last : (n p b : ℕ) (js : List ℕ) → 0 < n → isFresh P o p js ≡ true → fitsIn ws r k b p ≡ true → p ≡ t → walked ws r P k o t n p b js ≡ some (p ∷ js)
+  unfolding walked
+  walk-last zero p b js l e f q = absurd (omega arith)
+  walk-last (suc n) p b js l e f q = rw (e, f, eq-eqb p t q)
+
+  pub walk-on : (n m p b : ℕ) (js : List ℕ) → n ≡ suc m → isFresh P o p js ≡ true → fitsIn ws r k b p ≡ true → (p ≡ t → ⊥)
+      → walked ws r P k o t n p b js ≡ walked ws r P k o t m (nextIn ws r p) (linkIn ws r p / 8192) (p ∷ js)
+  unfolding walked
+  walk-on n m p b js s e f q = rw (s, e, f, ne-eqb p t q)
+
+  pub ring-empty : (js : List ℕ) → t ≡ 0 → ringed ws r P k o t js ≡ some js
+  unfolding ringed
+  ring-empty js e = rw (eq-eqb t 0 e)
+
+  pub ring-walk : (js : List ℕ) → (t ≡ 0 → ⊥) → ringed ws r P k o t js ≡ walked ws r P k o t (P - length js) (nextIn ws r t) 7 js
+  unfolding ringed
+  ring-walk js e = rw (ne-eqb t 0 e)

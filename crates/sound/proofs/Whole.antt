@@ -1,0 +1,356 @@
+-- What the check finds of a whole area is what makes it sound: from each clause of the one to each clause of the other, both ways. Assumes nothing.
+use Prim.Native.Nat.{ℕ, _-_, _/_, _%_, _≤_, _<_}
+use native.Mathlib.Decide.{ℕ-discrete}
+use native.Mathlib.Omega.{arith}
+use mathlib.Core.Path.{_≡_, refl, sym, _∙_}
+use mathlib.Core.Logic.{_≢_, _⊎_, inl, inr}
+use mathlib.Core.Bool.{Bool, true, false, not, _&&_, cond, true≢false, false≢true}
+use mathlib.Core.List.{List, [], _∷_}
+use lib.Dec.{eqb}
+use lib.ListN.{getD}
+use Rattle.model.specs.declared.Shape.{Shape}
+use Rattle.model.specs.Queue.{Queue, inside, bit, same, exists, member, count, first, All, Falling}
+use Rattle.model.specs.Queue.Queue.{ready, park, lock, condition}
+use Rattle.model.specs.Field.{Field, some, priorities}
+use Rattle.model.specs.Field.Field.{clock, running, priority, timer, failed, holder, wakeup}
+use Rattle.model.specs.Machine as machine
+use Rattle.model.specs.Rules.{counted}
+use Rattle.model.specs.History.{isCondition}
+use Rattle.model.specs.Valid.{room}
+use Rattle.model.proofs.Tests.{Case, holds, fails, stops, same-case, eqb-yes, eqb-no, leb-no, inside-bounds}
+use Rattle.model.proofs.Lists.{member-here, member-there}
+use Rattle.model.proofs.Places.{at-place, waiting-is}
+use Rattle.ring.specs.Ring.{lastOf, Linked}
+use Rattle.area.specs.Layout.{Slot, at, has, recordsAt}
+use Rattle.area.specs.Layout.Part.{kept, tail, locked, waiting}
+use Rattle.area.specs.Layout.Slot.{Processes, LocksConditions, Parks, Clock, Running, Tail, Holder, Link, Flags, Timer}
+use Rattle.area.specs.State.{last}
+use Rattle.area.specs.Reading.{shapeOf, partsOf, stateOf}
+use Rattle.area.specs.Sound.{Tidy, Sound}
+use Rattle.area.proofs.Rings.{last-member}
+use Rattle.area.proofs.States.{Words}
+use Rattle.sound.specs.Walk.{recordAt, linkIn, nextIn, kindOf, tailWord, holderWord}
+use Rattle.sound.specs.Parts.{Counted, Runs}
+use Rattle.sound.proofs.Tests.{Fits, Headed}
+use Rattle.sound.proofs.Chains.{Member, all-member, member-all}
+use Rattle.sound.proofs.Lists.{every, every-in, in-every}
+use Rattle.sound.proofs.Visits.{reading, total, Visited, tail-part, total-one, total-two, placeIn, place-in}
+
+-- what the check finds
+pub record Whole (ws : List ℕ) : Type 0 where
+  pub counts : Counted ws
+  pub runs : Runs ws (recordsAt (shapeOf ws)) (getD ws 0 0)
+  pub each : (q : Queue) → exists (shapeOf ws) q ≡ true → Visited ws q
+  pub once : (x : ℕ) → total ws x (every (shapeOf ws)) ≡ bit (inside (getD ws 0 0) x)
+
+-- ---- lists
+
+pub falling-ext : (f g : ℕ → ℕ) (xs : List ℕ) → ((p : ℕ) → member p xs ≡ true → f p ≡ g p) → Falling f xs → Falling g xs
+falling-ext f g [] h c = tt
+falling-ext f g (x ∷ xs) h c = (
+  member-all (λ y. g y ≤ g x) xs (λ y m. rw (← h y (member-there y x xs m), ← h x (member-here x xs)) (all-member (λ y. f y ≤ f x) xs (c .0) y m)),
+  falling-ext f g xs (λ p m. h p (member-there p x xs m)) (c .1),
+)
+
+-- who comes after a member of a ring is a member
+chain-next : (f : ℕ → ℕ) (x : ℕ) (xs : List ℕ) → Linked f x xs → (p : ℕ) → member p (x ∷ xs) ≡ true → (p ≡ lastOf x xs) ⊎ (member (f p) xs ≡ true)
+chain-next f x [] c p m = go (ℕ-discrete x p)
+  where
+    go : Dec (x ≡ p) → (p ≡ x) ⊎ (member (f p) [] ≡ true)
+    go (yes e) = inl (sym e)
+    go (no n) = absurd (false≢true (rw (eqb-no x p n) at m))
+chain-next f x (y ∷ ys) c p m = go (ℕ-discrete x p) (chain-next f y ys (c .1) p)
+  where
+    there : (p ≡ lastOf y ys) ⊎ (member (f p) ys ≡ true) → (p ≡ lastOf y ys) ⊎ (member (f p) (y ∷ ys) ≡ true)
+    there (inl e) = inl e
+    there (inr i) = inr (member-there (f p) y ys i)
+
+    go : Dec (x ≡ p) → (member p (y ∷ ys) ≡ true → (p ≡ lastOf y ys) ⊎ (member (f p) ys ≡ true)) → (p ≡ lastOf y ys) ⊎ (member (f p) (y ∷ ys) ≡ true)
+    go (yes e) ih = inr (rw (← e, c .0) (member-here y ys))
+    go (no n) ih = there (ih (rw (eqb-no x p n) at m))
+
+ring-next : (f : ℕ → ℕ) (xs : List ℕ) → Linked f (last xs) xs → (p : ℕ) → member p xs ≡ true → member (f p) xs ≡ true
+ring-next f [] c p m = absurd (false≢true m)
+ring-next f (x ∷ xs) c p m = go (chain-next f x xs (c .1) p m)
+  where
+    go : (p ≡ lastOf x xs) ⊎ (member (f p) xs ≡ true) → member (f p) (x ∷ xs) ≡ true
+    go (inl e) = rw (e, c .0) (member-here x xs)
+    go (inr i) = member-there (f p) x xs i
+
+-- ---- values
+
+ranged : (b : Bool) (x v : ℕ) → x < v → cond b x 0 < cond b v 1
+ranged true x v h = h
+ranged false x v h = omega arith
+
+-- locked, from the words of a lock
+lock-bit : (P w v : ℕ) → P ≤ 1023 → Headed P 1 w v → w / 1 % 2 ≡ bit (not (eqb (v / 8 % 1024) 0))
+lock-bit P w v s h = elim (ℕ-discrete v 0) [
+  | yes e ↦ let a = h .plain e (λ z. omega arith) in rw (eqb-yes (v / 8 % 1024) 0 (omega arith)) (omega arith)
+  | no n ↦ let a = h .held n in let b = h .whole in let c = h .holder in rw (eqb-no (v / 8 % 1024) 0 (λ z. n (omega arith))) (omega arith)
+]
+
+-- waiting, from the flags of a member
+flag-bit : (q : Queue) (w f t : ℕ) → Fits (kindOf q) w f t → f / 2 % 2 ≡ bit (isCondition q)
+flag-bit ready w f t h = let a = h .idle (λ z. omega arith) in omega arith
+flag-bit (park k) w f t h = let a = h .idle (λ z. omega arith) in omega arith
+flag-bit (lock l) w f t h = let a = h .idle (λ z. omega arith) in omega arith
+flag-bit (condition c) w f t h = let a = h .waits refl in omega arith
+
+no-condition : (q : Queue) → isCondition q ≡ false → kindOf q ≡ 2 → ⊥
+no-condition ready e z = omega arith
+no-condition (park k) e z = omega arith
+no-condition (lock l) e z = omega arith
+no-condition (condition c) e z = true≢false e
+
+flags-tidy : (k w f t : ℕ) → Fits k w f t → (f < 4) × (f % 2 ≡ 0) × (w % 4 ≡ 0)
+flags-tidy k w f t h = elim (ℕ-discrete k 2) [
+  | yes e ↦ let a = h .waits e in (omega arith, omega arith, omega arith)
+  | no n ↦ let a = h .idle n in (omega arith, omega arith, omega arith)
+]
+
+-- ---- from what the check finds to a sound area
+
+module _ (ws : List ℕ) (small : Words ws) (W : Whole ws) where
+  abbrev n : Shape
+  n = shapeOf ws
+
+  abbrev P : ℕ
+  P = getD ws 0 0
+
+  abbrev r : ℕ
+  r = recordsAt (shapeOf ws)
+
+  most : P ≤ 1023
+  most = W .counts .processes
+
+  -- a queue that the counts do not give is empty
+  none-there : (q : Queue) → exists n q ≡ false → reading ws q ≡ []
+  none-there q h = rw h
+
+  -- a member of a queue
+  there : (x : ℕ) (q : Queue) → member x (reading ws q) ≡ true → (exists n q ≡ true) × Member ws r P (kindOf q) (holderWord ws q / 8) x
+  there x q m = go (exists n q) refl
+    where
+      go : (b : Bool) → exists n q ≡ b → (exists n q ≡ true) × Member ws r P (kindOf q) (holderWord ws q / 8) x
+      go true h = (h, all-member (Member ws r P (kindOf q) (holderWord ws q / 8)) (reading ws q) (W .each q h .ring .members) x m)
+      go false h = absurd (false≢true (rw (none-there q h) at m))
+
+  place : ℕ → Queue
+  place x = placeIn ws x (every n)
+
+  placed : (x : ℕ) → inside P x ≡ true → (exists n (place x) ≡ true) × (1 ≤ count x (reading ws (place x)))
+  unfolding place
+  placed x i =
+      let t = W .once x in
+      let o : bit (inside P x) ≡ 1 = rw i in
+      let k = place-in ws x (every n) (omega arith) in
+      (in-every n (placeIn ws x (every n)) (k .0), k .1)
+
+  -- it stands there, and nowhere else
+  here : (x : ℕ) (q : Queue) → exists n q ≡ true → inside P x ≡ true → Case (place x ≡ q) (place x ≢ q) (same (place x) q) → count x (reading ws q) ≡ bit (same (place x) q)
+  here x q h i (holds e d) =
+      let t = W .once x in
+      let o : bit (inside P x) ≡ 1 = rw i in
+      let k = total-one ws x (every n) q (every-in n q h) in
+      let l : 1 ≤ count x (reading ws q) = rw (← e) (placed x i .1) in
+      rw d (omega arith)
+  here x q h i (fails e d) =
+      let t = W .once x in
+      let o : bit (inside P x) ≡ 1 = rw i in
+      let l = placed x i in
+      let k = total-two ws x (every n) (place x) q (every-in n (place x) (l .0)) (every-in n q h) e in
+      rw d (omega arith)
+
+  stands : (x : ℕ) (q : Queue) → count x (reading ws q) ≡ bit (inside P x && same (place x) q)
+  stands x q = go (exists n q) refl (inside P x) refl
+    where
+      go : (b : Bool) → exists n q ≡ b → (i : Bool) → inside P x ≡ i → count x (reading ws q) ≡ bit (inside P x && same (place x) q)
+      go true h false i =
+          let t = W .once x in
+          let o : bit (inside P x) ≡ 0 = rw i in
+          let k = total-one ws x (every n) q (every-in n q h) in
+          rw i (omega arith)
+      go false h false i = rw (none-there q h, i)
+      go true h true i = rw i (here x q h i (same-case (place x) q))
+      go false h true i =
+          rw (none-there q h, i, stops (same-case (place x) q) (λ e. true≢false (sym (placed x i .0) ∙ rw e h)))
+
+  -- the record of each process is that of a member of its place
+  own : (x : ℕ) → inside P x ≡ true → Member ws r P (kindOf (place x)) (holderWord ws (place x) / 8) x
+  own x i = there x (place x) (at-place P (reading ws) place stands x (place x) i refl) .1
+
+  next-small : (x : ℕ) → inside P x ≡ true → nextIn ws r x ≤ P
+  next-small x i =
+      let q = place x in
+      let v = W .each q (placed x i .0) in
+      let m = at-place P (reading ws) place stands x q i refl in
+      let l : Linked (nextIn ws r) (last (reading ws q)) (reading ws q) = rw (v .ring .ends) (v .ring .linked) in
+      inside-bounds P (nextIn ws r x) (there (nextIn ws r x) q (ring-next (nextIn ws r) (reading ws q) l x m) .1 .within) .1
+
+  -- running
+  run-word : (getD ws 4 0 / 8 ≤ P) × (getD ws 4 0 % 8 ≡ 0)
+  run-word = elim (ℕ-discrete (getD ws 5 0 / 8) 0) [
+    | yes e ↦ let a = W .runs .nobody e in (omega arith, omega arith)
+    | no e ↦ let a = W .runs .somebody e in let b = a .first in let c = a .within in (omega arith, omega arith)
+  ]
+
+  counts-are : counted n ≡ true
+  counts-are =
+      let c = W .counts in let s = small 1 in
+      rw (eqb-no P 0 (omega arith), leb-no 1024 P (omega arith), leb-no 256 (getD ws 1 0 / 256) (omega arith), leb-no 256 (getD ws 1 0 % 256) (omega arith), leb-no 9 (getD ws 2 0 / 4096) (omega arith))
+
+  tidy-at : (a : Slot) → has n a ≡ true → Tidy P a (getD ws (at n a) 0)
+  tidy-at Processes h = tt
+  tidy-at LocksConditions h = tt
+  tidy-at Parks h = W .counts .unnamed
+  tidy-at Clock h = tt
+  tidy-at Running h = record { range = run-word .0; low = omega (arith, run-word .1) }
+  tidy-at (Tail ready) h = let d = W .each ready refl .head in let l = d .plain refl (λ z. omega arith) in record { range = d .tail; low = omega arith }
+  tidy-at (Tail (park k)) h = let d = W .each (park k) h .head in let l = d .plain refl (λ z. omega arith) in record { range = d .tail; low = omega arith }
+  tidy-at (Tail (lock l)) h = record { range = d .tail; low = go (ℕ-discrete (holderWord ws (lock l)) 0) }
+    where
+      d : Headed P 1 (tailWord ws (lock l)) (holderWord ws (lock l))
+      d = W .each (lock l) h .head
+
+      go : Dec (holderWord ws (lock l) ≡ 0) → tailWord ws (lock l) % 8 < 2
+      go (yes e) = let a = d .plain e (λ z. omega arith) in omega arith
+      go (no e) = let a = d .held e in omega arith
+  tidy-at (Tail (condition c)) h = let d = W .each (condition c) h .head in record { range = d .tail; low = d .wakes refl refl .0 }
+  tidy-at (Holder l) h = let d = W .each (lock l) h .head in let a = d .whole in record { range = d .holder; low = omega arith }
+  tidy-at (Link p) h = (next-small p h, flags-tidy _ _ _ _ (own p h .fits) .2)
+  tidy-at (Flags p) h = let f = flags-tidy _ _ _ _ (own p h .fits) in (f .0, f .1)
+  tidy-at (Timer p) h = tt
+
+  closed-at : (q : Queue) → last (reading ws q) ≡ partsOf n ws (tail q)
+  closed-at q = go (exists n q) refl
+    where
+      go : (b : Bool) → exists n q ≡ b → last (reading ws q) ≡ partsOf n ws (tail q)
+      go true h = let v = W .each q h in v .ring .ends ∙ sym (tail-part ws q h most (v .head .tail))
+      go false h = rw (none-there q h, h)
+
+  real-at : (x : ℕ) → inside P x ≡ true → exists n (place x) ≡ true
+  real-at x i = placed x i .0
+
+  waits-at : (x : ℕ) → partsOf n ws (waiting x) ≡ bit (machine.waiting n (reading ws) x)
+  waits-at x = rw (waiting-is n (reading ws) place stands x (real-at x)) (go (inside P x) refl)
+    where
+      go : (b : Bool) → inside P x ≡ b → partsOf n ws (waiting x) ≡ bit (inside P x && isCondition (place x))
+      go true i = rw i (flag-bit (place x) _ _ _ (own x i .fits))
+      go false i = rw i
+
+  locks-at : (l : ℕ) → partsOf n ws (locked l) ≡ bit (machine.locked (stateOf ws .fields) l)
+  locks-at l = go (inside (n .locks) l) refl
+    where
+      go : (b : Bool) → inside (n .locks) l ≡ b → partsOf n ws (locked l) ≡ bit (machine.locked (stateOf ws .fields) l)
+      go true h = rw h (lock-bit P (tailWord ws (lock l)) (holderWord ws (lock l)) most (W .each (lock l) h .head))
+      go false h = rw h
+
+  range-at : (f : Field) → partsOf n ws (kept f) < room n f
+  range-at clock = omega arith
+  range-at running = omega (arith, run-word .0)
+  range-at (priority p) = ranged (inside P p) _ 8 (omega arith)
+  range-at (timer p) = ranged (inside P p) _ 65536 (omega arith)
+  range-at (failed p) = ranged (inside P p) _ 2 (omega arith)
+  range-at (holder l) = go (inside (n .locks) l) refl
+    where
+      go : (b : Bool) → inside (n .locks) l ≡ b → partsOf n ws (kept (holder l)) < room n (holder l)
+      go true h = let d = W .each (lock l) h .head .holder in rw h (omega arith)
+      go false h = rw h (omega arith)
+  range-at (wakeup c) = ranged (inside (n .conditions) c) _ 2 (omega arith)
+
+  falls-at : (q : Queue) → Falling (priorities (stateOf ws .fields)) (reading ws q)
+  falls-at q = go (exists n q) refl
+    where
+      level : (x : ℕ) → member x (reading ws q) ≡ true → linkIn ws r x / 8192 ≡ partsOf n ws (kept (priority x))
+      level x m = let s = small (recordAt r x) in rw (there x q m .1 .within) (omega arith)
+
+      go : (b : Bool) → exists n q ≡ b → Falling (priorities (stateOf ws .fields)) (reading ws q)
+      go true h = falling-ext (λ x. linkIn ws r x / 8192) (priorities (stateOf ws .fields)) (reading ws q) level (W .each q h .ring .falls)
+      go false h = rw (none-there q h) tt
+
+  runs-at : getD ws 4 0 / 8 % 1024 ≡ first (reading ws ready)
+  runs-at = go (reading ws ready) (v .ring .linked) (v .ring .ends) (v .ring .members)
+    where
+      v : Visited ws ready
+      v = W .each ready refl
+
+      go : (ys : List ℕ) → Linked (nextIn ws r) (getD ws 5 0 / 8) ys → lastOf 0 ys ≡ getD ws 5 0 / 8 → All (Member ws r P 0 0) ys → getD ws 4 0 / 8 % 1024 ≡ first ys
+      go [] l e m = let a = W .runs .nobody (sym e) in omega arith
+      go (y ∷ ys) l e m =
+          let b = inside-bounds P (lastOf y ys) (all-member (Member ws r P 0 0) (y ∷ ys) m (lastOf y ys) (last-member y ys) .within) in
+          let a = W .runs .somebody (λ z. omega arith) in
+          let f = a .first in let w = a .within in let o = l .0 in let u = most in
+          omega arith
+
+  steady-at : partsOf n ws (kept (failed (getD ws 4 0 / 8 % 1024))) ≡ 0
+  steady-at = go (inside P (getD ws 4 0 / 8 % 1024)) refl (ℕ-discrete (getD ws 5 0 / 8) 0)
+    where
+      go : (b : Bool) → inside P (getD ws 4 0 / 8 % 1024) ≡ b → Dec (getD ws 5 0 / 8 ≡ 0) → partsOf n ws (kept (failed (getD ws 4 0 / 8 % 1024))) ≡ 0
+      go false i d = rw i
+      go true i (yes e) = let a = W .runs .nobody e in let b = inside-bounds P (getD ws 4 0 / 8 % 1024) i in absurd (omega arith)
+      go true i (no e) =
+          let a = W .runs .somebody e in
+          let f = a .first in let w = a .within in let u = most in
+          let z : getD ws 4 0 / 8 % 1024 ≡ nextIn ws r (getD ws 5 0 / 8) = omega arith in
+          rw (i, z) (a .clear)
+
+  timers-at : (x : ℕ) → machine.waiting n (reading ws) x ≡ false → partsOf n ws (kept (timer x)) ≡ 0
+  timers-at x w = go (inside P x) refl
+    where
+      go : (b : Bool) → inside P x ≡ b → partsOf n ws (kept (timer x)) ≡ 0
+      go false i = rw i
+      go true i =
+          let e : isCondition (place x) ≡ false = rw i at (sym (waiting-is n (reading ws) place stands x (real-at x)) ∙ w) in
+          let t = own x i .fits .idle (no-condition (place x) e) in
+          rw i (omega arith)
+
+  blocked-at : (l x : ℕ) → member x (reading ws (lock l)) ≡ true → partsOf n ws (kept (failed x)) ≡ 1
+  blocked-at l x m = let k = there x (lock l) m .1 in let f = k .fits .blocked refl in rw (k .within) (omega arith)
+
+  asleep-at : (c x : ℕ) → member x (reading ws (condition c)) ≡ true → partsOf n ws (kept (failed x)) ≡ 0
+  asleep-at c x m = let k = there x (condition c) m .1 in let f = k .fits .waits refl in rw (k .within) (omega arith)
+
+  holders-at : (l : ℕ) → member (partsOf n ws (kept (holder l))) (reading ws (lock l)) ≡ false
+  holders-at l = go (member (partsOf n ws (kept (holder l))) (reading ws (lock l))) refl
+    where
+      go : (b : Bool) → member (partsOf n ws (kept (holder l))) (reading ws (lock l)) ≡ b → b ≡ false
+      go false m = refl
+      go true m =
+          let k = there (partsOf n ws (kept (holder l))) (lock l) m in
+          let d = W .each (lock l) (k .0) .head .holder in let u = most in
+          let e : partsOf n ws (kept (holder l)) ≡ holderWord ws (lock l) / 8 = rw (k .0) (omega arith) in
+          absurd (k .1 .free e)
+
+  wakeups-at : (c : ℕ) → some (partsOf n ws (kept (wakeup c))) ≡ true → reading ws (condition c) ≡ []
+  wakeups-at c w = go (inside (n .conditions) c) refl
+    where
+      go : (b : Bool) → inside (n .conditions) c ≡ b → reading ws (condition c) ≡ []
+      go false h = none-there (condition c) h
+      go true h =
+          let d = W .each (condition c) h .head in
+          let k = d .wakes refl refl in
+          let o : getD ws (at n (Tail (condition c))) 0 / 1 % 2 ≡ 0 → ⊥ = λ z. false≢true (rw (h, z) at w) in
+          let e : tailWord ws (condition c) % 8 ≡ 1 = elim (ℕ-discrete (getD ws (at n (Tail (condition c))) 0 / 1 % 2) 0) [ yes z ↦ absurd (o z) | no z ↦ omega arith ] in
+          let f = k .1 e in
+          let t : partsOf n ws (tail (condition c)) ≡ 0 = rw h (omega arith) in
+          rw t
+
+  pub whole-sound : Sound ws
+  whole-sound = record {
+    long = W .counts .long;
+    tidy = tidy-at;
+    closed = closed-at;
+    waits = waits-at;
+    locks = locks-at;
+    valid = record {
+      placed = record { counts = counts-are; range = range-at; place = place; real = real-at; once = stands; falls = falls-at };
+      runs = runs-at;
+      steady = steady-at;
+      timers = timers-at;
+      blocked = blocked-at;
+      asleep = asleep-at;
+      holders = holders-at;
+      wakeups = wakeups-at;
+    };
+  }
