@@ -1,10 +1,34 @@
-# make test: every test and proof, from nothing; its last step is the gate of the proof kit.
-# make run: proves the model, with 01's example as a fact of it.
+# make run:   builds the library and plays 01's example through it.
+# make test:  every test and proof, from nothing; its last step is the gate of the proof kit.
+# make bench: the library against plain C on the same work, as ratios.
+# make fuzz:  the tests with a fresh seed, which is printed, for SECONDS.
 
-.PHONY: run test
+LIB = target/staticlib/libkernel.a
+CFLAGS = -std=c11 -Wall -Wextra -O2
+TESTS = cargo run --quiet --release --manifest-path tests/Cargo.toml --features calls,list --
+SECONDS ?= 60
 
-run:
-	rt check model
+.PHONY: lib run test bench fuzz
 
-test:
+lib:
+	rt staticlib kernel
+
+target/nine: lib examples/nine.c include/kernel.h
+	gcc $(CFLAGS) examples/nine.c $(LIB) -o $@
+
+run: target/nine
+	target/nine
+
+test: target/nine
+	target/nine | diff examples/nine.txt -
+	$(TESTS)
 	rt ci
+
+target/bench: lib bench/bench.c bench/plain.c bench/plain.h
+	gcc $(CFLAGS) -DWITH_CALLS -DWITH_LIST bench/bench.c bench/plain.c $(LIB) -o $@
+
+bench: target/bench
+	target/bench
+
+fuzz: lib
+	$(TESTS) fuzz $(SECONDS)

@@ -2,9 +2,9 @@
 use model::Shape;
 ghost use mathlib.Core.Path.{_≡_};
 ghost use mathlib.Core.Bool.{true, false};
-ghost use mathlib.Core.List.{List};
+ghost use mathlib.Core.List.{List, _++_};
 ghost use Prim.Native.Nat.{ℕ, _+_, _*_, _/_, _%_, _<_, _≤_};
-ghost use lib.ListN.{length};
+ghost use lib.ListN.{length, drop};
 ghost use Rattle.model.specs.declared.Shape.{Shape};
 ghost use Rattle.model.specs.Queue.{Queue, inside, exists, bit, member, remove, insert, first};
 ghost use Rattle.model.specs.Queue.Queue.{ready, park, lock, condition};
@@ -179,6 +179,27 @@ pub fn stands_in(area: &[u16], shape: Shape, i: usize, p: u16) -> bool
     let at = records_at(shape);
     let tail = ring::next_field(area[i]);
     ring::has(&area[at..], tail, p)
+}
+
+// How many processes the queue whose tail stands at i has.
+pub fn count_in(area: &[u16], shape: Shape, i: usize) -> u16
+    requires { ⌜ Held shape (now area) ⌝ }
+    requires { ⌜ ((q : Queue) × (exists shape q ≡ true) × (i ≡ at shape (Tail q))) ⌝ }
+    ensures { λ r. ⌜ ((s : State model) (q : Queue) → Holds shape (now (area .entry)) s → exists shape q ≡ true → i ≡ at shape (Tail q) → r ≡ length (s .queues q)) ⌝ }
+{
+    let at = records_at(shape);
+    let tail = ring::next_field(area[i]);
+    ring::length_of(&area[at..], tail)
+}
+
+// Writes the queue whose tail stands at i to the front of out, the first of it first.
+pub fn copy_out(area: &[u16], shape: Shape, i: usize, out: &mut [u16])
+    requires { ⌜ ((s : State model) × (q : Queue) × Holds shape (now area) s × (exists shape q ≡ true) × (i ≡ at shape (Tail q)) × (length (s .queues q) ≤ length (now out))) ⌝ }
+    ensures { λ _. ⌜ ((s : State model) (q : Queue) → Holds shape (now (area .entry)) s → exists shape q ≡ true → i ≡ at shape (Tail q) → now (out .exit) ≡ s .queues q ++ drop (length (s .queues q)) (now (out .entry))) ⌝ }
+{
+    let at = records_at(shape);
+    let tail = ring::next_field(area[i]);
+    ring::write_out(&area[at..], tail, out);
 }
 
 // ---- words

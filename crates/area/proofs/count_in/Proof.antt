@@ -1,0 +1,51 @@
+-- `area::count_in` meets its contract: the records are lent to the rings, and the queue is one of them. Assumes nothing.
+use Rattle.area.specs.Layout.Slot.{Tail}
+use Rattle.area.proofs.Fields.{below, read-queue}
+use borrow.Author.Needs.{needs}
+use Rattle.area.proofs.count_in.Statement.{statement}
+use Rattle.area.proofs.count_in.Tie as tie
+
+records-at-requires : tie.Need-records-at-requires
+records-at-requires c κs = search needs
+
+mul-next-field : tie.Need-mul-next-field
+mul-next-field c = let h = below (c .before .before .pre .0 .1 .image) (Tail (c .before .before .pre .1 .0)) (c .before .before .pre .1 .1) (c .before .before .pre .1 .2) in search needs
+
+shared-slice-read-next-field : tie.Need-shared-slice-read-next-field
+shared-slice-read-next-field c = below (c .before .before .before .pre .0 .1 .image) (Tail (c .before .before .before .pre .1 .0)) (c .before .before .before .pre .1 .1) (c .before .before .before .pre .1 .2)
+
+next-field-requires : tie.Need-next-field-requires
+next-field-requires c κs = search needs
+
+mul-length-of : tie.Need-mul-length-of
+mul-length-of c = search needs
+
+sub-length-of : tie.Need-sub-length-of
+sub-length-of c = search needs
+
+part-length-of-start : tie.Need-part-length-of-start
+part-length-of-start c = search needs
+
+part-length-of-end : tie.Need-part-length-of-end
+part-length-of-end c = search needs
+
+length-of-requires : tie.Need-length-of-requires
+length-of-requires c κs = (_, read-queue (c .before .before .before .before .before .pre .0 .1) (c .before .before .before .before .before .pre .1 .0) (c .before .before .before .before .before .pre .1 .1) (c .before .before .before .before .before .pre .1 .2) (c .before .before .before .records-at .ensures) (c .before .next-field .ensures))
+
+returns : tie.Need-returns
+returns c = λ s q H ok here. c .length-of .ensures (s .queues q) (read-queue H q ok here (c .before .before .before .before .records-at .ensures) (c .before .before .next-field .ensures))
+
+pub count-in-spec : {M : Type 1} → statement M
+count-in-spec =
+    tie.close
+    (tie.spec
+    records-at-requires
+    mul-next-field
+    shared-slice-read-next-field
+    next-field-requires
+    mul-length-of
+    sub-length-of
+    part-length-of-start
+    part-length-of-end
+    length-of-requires
+    returns)

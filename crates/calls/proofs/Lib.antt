@@ -1,0 +1,11 @@
+pub mod Outcomes
+pub mod Shared
+pub mod Numbers
+pub mod Locking
+pub mod Waiting
+pub mod Ranking
+pub mod Waking
+pub mod Requeues
+pub mod Ticking
+pub mod Started
+pub mod QueueBy

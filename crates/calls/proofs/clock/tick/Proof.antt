@@ -1,0 +1,39 @@
+-- `calls::clock::tick` meets its contract: the clock goes on, and those whose timer rings wake, by the rule of Tick. Assumes nothing.
+use Rattle.area.proofs.Puts.{becomes-then}
+use Rattle.calls.proofs.Ticking.{valid-clock, ticks}
+use borrow.Author.Needs.{needs}
+use Rattle.calls.proofs.clock.tick.Statement.{statement}
+use Rattle.calls.proofs.clock.tick.Tie as tie
+
+clock-of-requires : tie.Need-clock-of-requires
+clock-of-requires c κs = (c .before .before .args .shape, (c .before .before .pre .state, c .before .before .pre .holds))
+
+wrapping-add-u16-requires : tie.Need-wrapping-add-u16-requires
+wrapping-add-u16-requires c κs = search needs
+
+set-clock-requires : tie.Need-set-clock-requires
+set-clock-requires c κs = (c .before .before .before .before .before .args .shape, (c .before .before .before .before .before .pre .state, c .before .before .before .before .before .pre .holds))
+
+wake-due-requires : tie.Need-wake-due-requires
+wake-due-requires c κs = let s = c .before .before .before .before .before .before .before .before .before .pre .state in let H = c .before .before .before .before .before .before .before .before .before .pre .holds in let v = c .before .before .before .before .before .before .before .before .before .pre .valid in let b = c .before .before .before .set-clock .ensures (c .before .before .before .before .before .before .before .before .before .args .shape) s H in record { state = _; holds = b .holds; valid = valid-clock (b .holds .placed) v }
+
+finish-requires : tie.Need-finish-requires
+finish-requires c κs = let s = c .before .before .before .before .before .before .before .before .before .before .before .before .before .pre .state in let H = c .before .before .before .before .before .before .before .before .before .before .before .before .before .pre .holds in let v = c .before .before .before .before .before .before .before .before .before .before .before .before .before .pre .valid in let b = c .before .before .before .before .before .before .before .set-clock .ensures (c .before .before .before .before .before .before .before .before .before .before .before .before .before .args .shape) s H in let w = c .before .before .before .wake-due .ensures _ (b .holds) (valid-clock (b .holds .placed) v) in (_, w .1 .holds)
+
+same-length : tie.Need-same-length
+same-length c = search needs
+
+returns : tie.Need-returns
+returns c = λ s H v. let b = c .before .before .before .before .before .before .before .before .before .before .set-clock .ensures (c .before .before .before .before .before .before .before .before .before .before .before .before .before .before .before .before .args .shape) s H in let w = c .before .before .before .before .before .before .wake-due .ensures _ (b .holds) (valid-clock (b .holds .placed) v) in ticks H v (c .before .before .before .before .before .before .before .before .before .before .before .before .before .clock-of .ensures _ s H) (c .before .before .before .before .before .before .before .before .before .before .before .before .wrapping-add-u16 .ensures) (w .0) (becomes-then b (w .1)) (c .before .before .finish .ensures _ (w .1 .holds))
+
+pub tick-spec : {M : Type 1} → statement M
+tick-spec =
+    tie.close
+    (tie.spec
+    clock-of-requires
+    wrapping-add-u16-requires
+    set-clock-requires
+    wake-due-requires
+    finish-requires
+    same-length
+    returns)

@@ -1,0 +1,79 @@
+-- `calls::clock::wake_due` meets its contract. The loop's invariant: of the processes passed those who ring have woken, as many as are counted,
+-- and no more than are passed; it holds again since the next rings by its own timer, which no other waking changes. The measure is the
+-- processes ahead. Assumes nothing.
+use Prim.Native.Nat.{_+_, _-_, _≤_}
+use native.Mathlib.Omega.{arith}
+use Rattle.model.specs.Queue.Queue.{condition}
+use Rattle.model.specs.Machine.{State, model}
+use Rattle.model.specs.Valid.{Valid}
+use Rattle.model.proofs.Tests.{bounds-inside}
+use Rattle.area.specs.Holds.{Holds}
+use Rattle.calls.proofs.Numbers.{as-long}
+use Rattle.calls.proofs.Ticking.{Ringing, none-ring, ringing-start, ringing-skip, ringing-waits, ringing-next, ringing-end}
+use Rattle.calls.proofs.clock.wake_due.Statement.{statement}
+use Rattle.calls.proofs.clock.wake_due.Tie as tie
+
+abbrev Inv-loop : tie.InvT-loop
+Inv-loop area₀ shape time moved₀ processes p₀ area moved p = (moved ≤ p) × (p ≤ shape .processes) × ((s : State model) → Holds shape area₀ s → Valid shape s → Ringing shape area₀ area s time p moved)
+
+abbrev μ-loop : tie.MeasureT-loop
+μ-loop area₀ shape time moved₀ processes p₀ area moved p = shape .processes - p
+
+returns : tie.Need-returns Inv-loop μ-loop
+returns c = λ s H v. none-ring H (c .if1 .taken)
+
+loop-holds : tie.Need-loop-holds Inv-loop μ-loop
+loop-holds c = (omega arith, omega arith, λ s H v. ringing-start H v)
+
+add-p : tie.Need-add-p Inv-loop μ-loop
+add-p c = omega arith
+
+timer-of-requires : tie.Need-timer-of-requires Inv-loop μ-loop
+timer-of-requires c κs = let s = c .before .before .before .before .before .pre .state in let H = c .before .before .before .before .before .pre .holds in let v = c .before .before .before .before .before .pre .valid in let r = c .before .before .loop .inv .2 s H v in ((_, r .becomes .holds), bounds-inside (c .before .before .before .before .before .args .shape .processes) (c .before .before .loop .p + 1) (omega arith) (omega arith))
+
+condition-of-requires : tie.Need-condition-of-requires Inv-loop μ-loop
+condition-of-requires c κs = let s = c .before .before .before .before .before .before .before .before .pre .state in let H = c .before .before .before .before .before .before .before .before .pre .holds in let v = c .before .before .before .before .before .before .before .before .pre .valid in let r = c .before .before .before .before .before .loop .inv .2 s H v in let t = c .before .before .timer-of .ensures _ (r .becomes .holds) in let w = ringing-waits H v r t (c .before .before .before .before .before .before .if1 .left) (c .before .if2 .taken) (omega arith) in (_, r .becomes .holds, w)
+
+wake-requires : tie.Need-wake-requires Inv-loop μ-loop
+wake-requires c κs = let s = c .before .before .before .before .before .before .before .before .before .before .pre .state in let H = c .before .before .before .before .before .before .before .before .before .before .pre .holds in let v = c .before .before .before .before .before .before .before .before .before .before .pre .valid in let r = c .before .before .before .before .before .before .before .loop .inv .2 s H v in let t = c .before .before .before .before .timer-of .ensures _ (r .becomes .holds) in let w = ringing-waits H v r t (c .before .before .before .before .before .before .before .before .if1 .left) (c .before .before .before .if2 .taken) (omega arith) in let k = c .before .condition-of .ensures _ (r .becomes .holds) w in (_, condition (k .0), r .becomes .holds, k .1, k .2, k .3)
+
+add-moved : tie.Need-add-moved Inv-loop μ-loop
+add-moved c = omega arith
+
+loop-less : tie.Need-loop-less Inv-loop μ-loop
+loop-less c = omega arith
+
+loop-again : tie.Need-loop-again Inv-loop μ-loop
+loop-again c = (omega arith, omega arith, λ s H v. let r = c .before .before .before .before .before .before .before .before .before .before .loop .inv .2 s H v in let t = c .before .before .before .before .before .before .before .timer-of .ensures _ (r .becomes .holds) in let w = ringing-waits H v r t (c .before .before .before .before .before .before .before .before .before .before .before .if1 .left) (c .before .before .before .before .before .before .if2 .taken) (omega arith) in let k = c .before .before .before .before .condition-of .ensures _ (r .becomes .holds) w in ringing-next H v r t (c .before .before .before .before .before .before .before .before .before .before .before .if1 .left) (c .before .before .before .before .before .before .if2 .taken) (c .before .before .wake .ensures _ (condition (k .0)) (r .becomes .holds) (k .1) (k .2) (k .3)))
+
+loop-less-2 : tie.Need-loop-less-2 Inv-loop μ-loop
+loop-less-2 c = omega arith
+
+loop-again-2 : tie.Need-loop-again-2 Inv-loop μ-loop
+loop-again-2 c = (omega arith, omega arith, λ s H v. let r = c .before .before .before .before .loop .inv .2 s H v in let t = c .before .timer-of .ensures _ (r .becomes .holds) in ringing-skip H v r t (c .if2 .left))
+
+same-length : tie.Need-same-length Inv-loop μ-loop
+same-length c = let s = c .before .before .before .before .pre .state in let H = c .before .before .before .before .pre .holds in let v = c .before .before .before .before .pre .valid in let r = c .before .loop .inv .2 s H v in as-long H (r .becomes)
+
+returns-2 : tie.Need-returns-2 Inv-loop μ-loop
+returns-2 c = λ s H v. ringing-end H v (c .before .loop .inv .2 s H v) (c .before .loop .inv .1) (c .loop-test .left)
+
+pub wake-due-spec : {M : Type 1} → statement M
+wake-due-spec =
+    tie.close
+    (tie.spec
+    Inv-loop
+    μ-loop
+    returns
+    loop-holds
+    add-p
+    timer-of-requires
+    condition-of-requires
+    wake-requires
+    add-moved
+    loop-less
+    loop-again
+    loop-less-2
+    loop-again-2
+    same-length
+    returns-2)

@@ -1,0 +1,47 @@
+-- `calls::waits::sleep` meets its contract: p's timer is set, and p moves from ready to the condition. Assumes nothing.
+use mathlib.Core.Path.{refl}
+use Rattle.model.specs.Queue.Queue.{ready, condition}
+use Rattle.area.proofs.Puts.{becomes-then}
+use Rattle.area.proofs.Rings.{member-inside}
+use Rattle.calls.proofs.Shared.{going}
+use Rattle.calls.proofs.Waiting.{sleeps}
+use borrow.Author.Needs.{needs}
+use Rattle.calls.proofs.waits.sleep.Statement.{statement}
+use Rattle.calls.proofs.waits.sleep.Tie as tie
+
+clock-of-requires : tie.Need-clock-of-requires
+clock-of-requires c κs = let t = c .before .before .pre .0 in (c .before .before .args .shape, (t .0, t .1))
+
+alarm-at-requires : tie.Need-alarm-at-requires
+alarm-at-requires c κs = search needs
+
+set-timer-requires : tie.Need-set-timer-requires
+set-timer-requires c κs = let t = c .before .before .before .before .before .pre .0 in ((t .0, t .1), member-inside (c .before .before .before .before .before .args .shape) (t .0) (t .1 .placed) (c .before .before .before .before .before .args .p) ready (t .2))
+
+ready-at-requires : tie.Need-ready-at-requires
+ready-at-requires c κs = search needs
+
+condition-at-requires : tie.Need-condition-at-requires
+condition-at-requires c κs = search needs
+
+send-requires : tie.Need-send-requires
+send-requires c κs = let t = c .before .before .before .before .before .before .before .before .before .before .before .pre .0 in going (c .before .before .before .before .before .set-timer .ensures (t .0) (t .1) .holds) ready (condition (c .before .before .before .before .before .before .before .before .before .before .before .args .condition)) refl (c .before .before .before .before .before .before .before .before .before .before .before .pre .1) (c .before .before .ready-at .ensures (c .before .before .before .before .before .before .before .before .before .before .before .args .shape)) (c .before .condition-at .ensures) (t .2) refl
+
+same-length : tie.Need-same-length
+same-length c = search needs
+
+returns : tie.Need-returns
+returns c = λ s H m. let b = c .before .before .before .before .before .before .before .before .set-timer .ensures s H in sleeps s (c .before .before .before .before .before .before .before .before .before .before .before .before .before .before .args .p) (c .before .before .before .before .before .before .before .before .before .before .before .before .before .before .args .condition) (c .before .before .before .before .before .before .before .before .before .before .before .before .before .before .args .ticks .0) (c .before .before .before .before .before .before .before .before .before .before .before .clock-of .ensures (c .before .before .before .before .before .before .before .before .before .before .before .before .before .before .args .shape) s H) (c .before .before .before .before .before .before .before .before .before .before .alarm-at .ensures) (becomes-then b (c .before .before .send .ensures (going (b .holds) ready (condition (c .before .before .before .before .before .before .before .before .before .before .before .before .before .before .args .condition)) refl (c .before .before .before .before .before .before .before .before .before .before .before .before .before .before .pre .1) (c .before .before .before .before .before .ready-at .ensures (c .before .before .before .before .before .before .before .before .before .before .before .before .before .before .args .shape)) (c .before .before .before .before .condition-at .ensures) m refl)))
+
+pub sleep-spec : {M : Type 1} → statement M
+sleep-spec =
+    tie.close
+    (tie.spec
+    clock-of-requires
+    alarm-at-requires
+    set-timer-requires
+    ready-at-requires
+    condition-at-requires
+    send-requires
+    same-length
+    returns)

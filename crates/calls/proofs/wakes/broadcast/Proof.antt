@@ -1,0 +1,72 @@
+-- `calls::wakes::broadcast` meets its contract: all of the condition wake, by the rule of Broadcast. Assumes nothing.
+use mathlib.Core.Logic.{inl, inr}
+use Rattle.calls.proofs.Numbers.{is-inside}
+use Rattle.calls.proofs.Waking.{broadcast-idle, broadcast-none, broadcast-all}
+use borrow.Author.Needs.{needs}
+use Rattle.calls.proofs.wakes.broadcast.Statement.{statement}
+use Rattle.calls.proofs.wakes.broadcast.Tie as tie
+
+running-of-requires : tie.Need-running-of-requires
+running-of-requires c κs = (c .before .before .args .shape, (c .before .before .pre .state, c .before .before .pre .holds))
+
+refusal-requires : tie.Need-refusal-requires
+refusal-requires c κs = search needs
+
+same-length : tie.Need-same-length
+same-length c = search needs
+
+returns : tie.Need-returns
+returns c = λ s H v. broadcast-idle H _ (c .before .before .running-of .ensures _ s H) (c .before .if1 .taken) (c .refusal .ensures)
+
+refusal-requires-2 : tie.Need-refusal-requires-2
+refusal-requires-2 c κs = search needs
+
+same-length-2 : tie.Need-same-length-2
+same-length-2 c = search needs
+
+returns-2 : tie.Need-returns-2
+returns-2 c = λ s H v. broadcast-none H _ (c .before .before .before .running-of .ensures _ s H) (c .before .before .if1 .left) (inl (c .before .if2 .taken)) (c .refusal2 .ensures)
+
+refusal-requires-3 : tie.Need-refusal-requires-3
+refusal-requires-3 c κs = search needs
+
+same-length-3 : tie.Need-same-length-3
+same-length-3 c = search needs
+
+returns-3 : tie.Need-returns-3
+returns-3 c = λ s H v. broadcast-none H _ (c .before .before .before .before .before .running-of .ensures _ s H) (c .before .before .before .before .if1 .left) (inr (c .before .if3 .taken)) (c .refusal3 .ensures)
+
+condition-at-requires : tie.Need-condition-at-requires
+condition-at-requires c κs = is-inside (c .before .before .before .before .before .before .before .args .shape .conditions) (c .before .before .before .before .before .before .before .args .condition) (c .before .before .if2 .left) (c .if3 .left)
+
+wake-all-requires : tie.Need-wake-all-requires
+wake-all-requires c κs = let i = is-inside (c .before .before .before .before .before .before .before .before .before .args .shape .conditions) (c .before .before .before .before .before .before .before .before .before .args .condition) (c .before .before .before .before .if2 .left) (c .before .before .if3 .left) in (c .before .before .before .before .before .before .before .before .before .args .condition, (c .before .before .before .before .before .before .before .before .before .pre .state, c .before .before .before .before .before .before .before .before .before .pre .holds), i, c .before .condition-at .ensures)
+
+finish-requires : tie.Need-finish-requires
+finish-requires c κs = let i = is-inside (c .before .before .before .before .before .before .before .before .before .before .before .before .before .args .shape .conditions) (c .before .before .before .before .before .before .before .before .before .before .before .before .before .args .condition) (c .before .before .before .before .before .before .before .before .if2 .left) (c .before .before .before .before .before .before .if3 .left) in (_, (c .before .before .before .wake-all .ensures (c .before .before .before .before .before .before .before .before .before .before .before .before .before .pre .state) (c .before .before .before .before .before .before .before .before .before .before .before .before .before .args .condition) (c .before .before .before .before .before .before .before .before .before .before .before .before .before .pre .holds) i (c .before .before .before .before .before .condition-at .ensures) .1 .holds))
+
+same-length-4 : tie.Need-same-length-4
+same-length-4 c = search needs
+
+returns-4 : tie.Need-returns-4
+returns-4 c = λ s H v. let i = is-inside (c .before .before .before .before .before .before .before .before .before .before .before .before .before .before .before .before .args .shape .conditions) (c .before .before .before .before .before .before .before .before .before .before .before .before .before .before .before .before .args .condition) (c .before .before .before .before .before .before .before .before .before .before .before .if2 .left) (c .before .before .before .before .before .before .before .before .before .if3 .left) in let b = c .before .before .before .before .before .before .wake-all .ensures s (c .before .before .before .before .before .before .before .before .before .before .before .before .before .before .before .before .args .condition) H i (c .before .before .before .before .before .before .before .before .condition-at .ensures) in broadcast-all H _ (c .before .before .before .before .before .before .before .before .before .before .before .before .before .running-of .ensures _ s H) (c .before .before .before .before .before .before .before .before .before .before .before .before .if1 .left) i (b .0) (b .1) (c .before .before .finish .ensures _ (b .1 .holds))
+
+pub broadcast-spec : {M : Type 1} → statement M
+broadcast-spec =
+    tie.close
+    (tie.spec
+    running-of-requires
+    refusal-requires
+    same-length
+    returns
+    refusal-requires-2
+    same-length-2
+    returns-2
+    refusal-requires-3
+    same-length-3
+    returns-3
+    condition-at-requires
+    wake-all-requires
+    finish-requires
+    same-length-4
+    returns-4)

@@ -1,0 +1,69 @@
+// The clock: Tick. Assumes nothing.
+use crate::answers;
+use crate::wakes;
+use model::Answer;
+use model::Shape;
+ghost use mathlib.Core.Path.{_≡_};
+ghost use mathlib.Core.Bool.{true};
+ghost use Prim.Native.Nat.{ℕ};
+ghost use lib.ListN.{length};
+ghost use Rattle.model.specs.declared.Call.the-variants.{Tick};
+ghost use Rattle.model.specs.Queue.{Queue, inside, member, toReady};
+ghost use Rattle.model.specs.Rules.{calm, due};
+ghost use Rattle.model.specs.Machine as machine;
+ghost use Rattle.model.specs.Machine.{State, model};
+ghost use Rattle.model.specs.Valid.{Valid};
+ghost use Rattle.area.specs.Layout.{at};
+ghost use Rattle.area.specs.Layout.Slot.{Tail};
+ghost use Rattle.area.specs.Holds.{Holds, Becomes};
+ghost use Rattle.calls.specs.Parts.{Stands, Does, changed};
+
+// Where the tail of the condition stands in which p waits.
+fn condition_of(area: &[u16], shape: Shape, p: u16) -> usize
+    requires { ⌜ ((s : State model) × Holds shape (now area) s × (machine.waiting shape (s .queues) p ≡ true)) ⌝ }
+    ensures { λ r. ⌜ ((s : State model) → Holds shape (now (area .entry)) s → machine.waiting shape (s .queues) p ≡ true → ((c : ℕ) × (inside (shape .conditions) c ≡ true) × (r ≡ at shape (Tail (Queue.condition c))) × (member p (s .queues (Queue.condition c)) ≡ true))) ⌝ }
+{
+    let conditions = shape.conditions;
+    let mut c: u16 = 1;
+    while c < conditions {
+        let at = area::condition_at(shape, c);
+        if area::stands_in(area, shape, at, p) {
+            return at;
+        }
+        c += 1;
+    }
+    area::condition_at(shape, c)
+}
+
+// Each process whose timer rings now wakes, in process order. The answer is how many.
+fn wake_due(area: &mut [u16], shape: Shape, time: u16) -> u16
+    requires { ⌜ Stands shape (now area) ⌝ }
+    ensures { λ r. ⌜ ((s : State model) → Holds shape (now (area .entry)) s → Valid shape s → (r ≡ length (due shape (s .fields) time)) × Becomes shape (now (area .entry)) (now (area .exit)) (changed (calm (due shape (s .fields) time) (s .fields)) (toReady (due shape (s .fields) time)) s)) ⌝ }
+{
+    let mut moved: u16 = 0;
+    if time == 0 {
+        return 0;
+    }
+    let processes = shape.processes;
+    let mut p: u16 = 0;
+    while p < processes {
+        p += 1;
+        if area::timer_of(area, shape, p) == time {
+            let from = condition_of(area, shape, p);
+            wakes::wake(area, shape, from, p);
+            moved += 1;
+        }
+    }
+    moved
+}
+
+pub fn tick(area: &mut [u16], shape: Shape) -> Answer
+    requires { ⌜ Stands shape (now area) ⌝ }
+    ensures { λ r. ⌜ ((s : State model) → Holds shape (now (area .entry)) s → Valid shape s → Does Tick shape (now (area .entry)) (now (area .exit)) s r) ⌝ }
+{
+    let before = area::clock_of(area);
+    let time = std::num::wrapping_add_u16(before, 1);
+    area::set_clock(area, time);
+    let moved = wake_due(area, shape, time);
+    answers::finish(area, shape, 0, moved)
+}

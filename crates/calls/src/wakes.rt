@@ -1,0 +1,108 @@
+// Waking from a condition: Notify, Broadcast and Naked. Assumes nothing.
+use crate::answers;
+use model::Answer;
+use model::Shape;
+ghost use mathlib.Core.Path.{_≡_};
+ghost use mathlib.Core.Bool.{true};
+ghost use mathlib.Core.List.{[], _∷_};
+ghost use Prim.Native.Nat.{ℕ};
+ghost use lib.ListN.{length};
+ghost use Rattle.model.specs.declared.Call.the-variants.{Notify, Broadcast, Naked};
+ghost use Rattle.model.specs.Queue.{Queue, exists, inside, member, toReady};
+ghost use Rattle.model.specs.Queue.Queue.{ready};
+ghost use Rattle.model.specs.Field.{put};
+ghost use Rattle.model.specs.Field.Field.{timer};
+ghost use Rattle.model.specs.Rules.{calm};
+ghost use Rattle.model.specs.Machine.{State, model};
+ghost use Rattle.model.specs.Valid.{Valid};
+ghost use Rattle.area.specs.Layout.{at};
+ghost use Rattle.area.specs.Layout.Slot.{Tail};
+ghost use Rattle.area.specs.Holds.{Holds, Held, Becomes};
+ghost use Rattle.calls.specs.Parts.{Stands, Does, changed};
+
+// p wakes: its timer is 0, and it moves to ready from the condition whose tail stands at from.
+pub fn wake(area: &mut [u16], shape: Shape, from: usize, p: u16)
+    requires { ⌜ ((s : State model) × (q : Queue) × Holds shape (now area) s × (exists shape q ≡ true) × (from ≡ at shape (Tail q)) × (member p (s .queues q) ≡ true)) ⌝ }
+    ensures { λ _. ⌜ ((s : State model) (q : Queue) → Holds shape (now (area .entry)) s → exists shape q ≡ true → from ≡ at shape (Tail q) → member p (s .queues q) ≡ true → Becomes shape (now (area .entry)) (now (area .exit)) (changed (put (timer p) 0 (s .fields)) ((p, ready) ∷ []) s)) ⌝ }
+{
+    area::set_timer(area, shape, p, 0);
+    let to = area::ready_at();
+    area::send(area, shape, from, to, p, 0);
+}
+
+pub fn notify(area: &mut [u16], shape: Shape, condition: u16) -> Answer
+    requires { ⌜ Stands shape (now area) ⌝ }
+    ensures { λ r. ⌜ ((s : State model) → Holds shape (now (area .entry)) s → Valid shape s → Does (Notify condition) shape (now (area .entry)) (now (area .exit)) s r) ⌝ }
+{
+    let running = area::running_of(area);
+    if running == 0 {
+        return answers::refusal(6);
+    }
+    if condition == 0 {
+        return answers::refusal(7);
+    }
+    if shape.conditions < condition {
+        return answers::refusal(7);
+    }
+    let from = area::condition_at(shape, condition);
+    let first = area::first_in(area, shape, from);
+    if first == 0 {
+        return answers::finish(area, shape, 0, 0);
+    }
+    wake(area, shape, from, first);
+    answers::finish(area, shape, 0, 1)
+}
+
+// All of the condition whose tail stands at from wake, first to last. The answer is how many.
+fn wake_all(area: &mut [u16], shape: Shape, from: usize) -> u16
+    requires { ⌜ ((c : ℕ) × Held shape (now area) × (inside (shape .conditions) c ≡ true) × (from ≡ at shape (Tail (Queue.condition c)))) ⌝ }
+    ensures { λ r. ⌜ ((s : State model) (c : ℕ) → Holds shape (now (area .entry)) s → inside (shape .conditions) c ≡ true → from ≡ at shape (Tail (Queue.condition c)) → (r ≡ length (s .queues (Queue.condition c))) × Becomes shape (now (area .entry)) (now (area .exit)) (changed (calm (s .queues (Queue.condition c)) (s .fields)) (toReady (s .queues (Queue.condition c))) s)) ⌝ }
+{
+    let mut moved: u16 = 0;
+    let mut first = area::first_in(area, shape, from);
+    while first != 0 {
+        wake(area, shape, from, first);
+        moved += 1;
+        first = area::first_in(area, shape, from);
+    }
+    moved
+}
+
+pub fn broadcast(area: &mut [u16], shape: Shape, condition: u16) -> Answer
+    requires { ⌜ Stands shape (now area) ⌝ }
+    ensures { λ r. ⌜ ((s : State model) → Holds shape (now (area .entry)) s → Valid shape s → Does (Broadcast condition) shape (now (area .entry)) (now (area .exit)) s r) ⌝ }
+{
+    let running = area::running_of(area);
+    if running == 0 {
+        return answers::refusal(6);
+    }
+    if condition == 0 {
+        return answers::refusal(7);
+    }
+    if shape.conditions < condition {
+        return answers::refusal(7);
+    }
+    let from = area::condition_at(shape, condition);
+    let moved = wake_all(area, shape, from);
+    answers::finish(area, shape, 0, moved)
+}
+
+pub fn naked(area: &mut [u16], shape: Shape, condition: u16) -> Answer
+    requires { ⌜ Stands shape (now area) ⌝ }
+    ensures { λ r. ⌜ ((s : State model) → Holds shape (now (area .entry)) s → Valid shape s → Does (Naked condition) shape (now (area .entry)) (now (area .exit)) s r) ⌝ }
+{
+    if condition == 0 {
+        return answers::refusal(7);
+    }
+    if shape.conditions < condition {
+        return answers::refusal(7);
+    }
+    let from = area::condition_at(shape, condition);
+    let first = area::first_in(area, shape, from);
+    if first == 0 {
+        area::set_wakeup(area, shape, condition, 1);
+        return answers::finish(area, shape, 1, 0);
+    }
+    wake(area, shape, from, first);
+    answers::finish(area, shape, 0, 1)
+}

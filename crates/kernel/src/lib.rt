@@ -1,0 +1,118 @@
+// The C boundary: each call on an area of any words and any numbers, its answer packed in one number. Thin over monitor. Assumes nothing.
+use model::Priority;
+use model::Process;
+use model::Shape;
+use model::Ticks;
+ghost use Rattle.model.specs.declared.Call.the-variants.{Enter, Exit, Wait, Notify, Broadcast, Naked, Requeue, SetPriority, Tick};
+ghost use Rattle.kernel.specs.Exports.{Crosses, Begins, Judges, Writes};
+
+// ---- Start and Sound
+
+#[no_mangle]
+pub extern "C" fn kernel_start(
+    area: &mut [u16],
+    processes: u16,
+    locks: u16,
+    conditions: u16,
+    parks: u16,
+    priorities: &[u8],
+) -> u64
+    ensures { λ r. ⌜ Begins (record { processes = processes; locks = locks; conditions = conditions; parks = parks }) (now (priorities .entry)) (now (area .entry)) (now (area .exit)) r ⌝ }
+{
+    let shape = Shape {
+        processes: processes,
+        locks: locks,
+        conditions: conditions,
+        parks: parks,
+    };
+    monitor::pack(calls::start::start(area, shape, priorities))
+}
+
+#[no_mangle]
+pub extern "C" fn kernel_sound(area: &[u16]) -> u64
+    ensures { λ r. ⌜ Judges (now (area .entry)) r ⌝ }
+{
+    if sound::sound(area) {
+        return 1;
+    }
+    0
+}
+
+// ---- the nine calls
+
+#[no_mangle]
+pub extern "C" fn kernel_enter(area: &mut [u16], lock: u16) -> u64
+    ensures { λ r. ⌜ Crosses (Enter lock) (now (area .entry)) (now (area .exit)) r ⌝ }
+{
+    monitor::pack(monitor::enter(area, lock))
+}
+
+#[no_mangle]
+pub extern "C" fn kernel_exit(area: &mut [u16], lock: u16) -> u64
+    ensures { λ r. ⌜ Crosses (Exit lock) (now (area .entry)) (now (area .exit)) r ⌝ }
+{
+    monitor::pack(monitor::exit(area, lock))
+}
+
+#[no_mangle]
+pub extern "C" fn kernel_wait(area: &mut [u16], lock: u16, condition: u16, ticks: u16) -> u64
+    ensures { λ r. ⌜ Crosses (Wait lock condition (record { 0 = ticks })) (now (area .entry)) (now (area .exit)) r ⌝ }
+{
+    monitor::pack(monitor::wait(area, lock, condition, Ticks(ticks)))
+}
+
+#[no_mangle]
+pub extern "C" fn kernel_notify(area: &mut [u16], condition: u16) -> u64
+    ensures { λ r. ⌜ Crosses (Notify condition) (now (area .entry)) (now (area .exit)) r ⌝ }
+{
+    monitor::pack(monitor::notify(area, condition))
+}
+
+#[no_mangle]
+pub extern "C" fn kernel_broadcast(area: &mut [u16], condition: u16) -> u64
+    ensures { λ r. ⌜ Crosses (Broadcast condition) (now (area .entry)) (now (area .exit)) r ⌝ }
+{
+    monitor::pack(monitor::broadcast(area, condition))
+}
+
+#[no_mangle]
+pub extern "C" fn kernel_naked(area: &mut [u16], condition: u16) -> u64
+    ensures { λ r. ⌜ Crosses (Naked condition) (now (area .entry)) (now (area .exit)) r ⌝ }
+{
+    monitor::pack(monitor::naked(area, condition))
+}
+
+#[no_mangle]
+pub extern "C" fn kernel_requeue(
+    area: &mut [u16],
+    source: u16,
+    destination: u16,
+    process: u16,
+) -> u64
+    ensures { λ r. ⌜ Crosses (Requeue source destination (record { 0 = process })) (now (area .entry)) (now (area .exit)) r ⌝ }
+{
+    monitor::pack(monitor::requeue(area, source, destination, Process(process)))
+}
+
+#[no_mangle]
+pub extern "C" fn kernel_set_priority(area: &mut [u16], priority: u16) -> u64
+    ensures { λ r. ⌜ Crosses (SetPriority (record { 0 = priority })) (now (area .entry)) (now (area .exit)) r ⌝ }
+{
+    monitor::pack(monitor::set_priority(area, Priority(priority)))
+}
+
+#[no_mangle]
+pub extern "C" fn kernel_tick(area: &mut [u16]) -> u64
+    ensures { λ r. ⌜ Crosses Tick (now (area .entry)) (now (area .exit)) r ⌝ }
+{
+    monitor::pack(monitor::tick(area))
+}
+
+// ---- List
+
+#[no_mangle]
+pub extern "C" fn kernel_list(area: &[u16], kind: u16, number: u16, buffer: &mut [u16]) -> u64
+    ensures { λ r. ⌜ Writes kind number (now (area .entry)) (now (buffer .entry)) (now (buffer .exit)) r ⌝ }
+{
+    monitor::pack_list(monitor::list(area, kind, number, buffer))
+}

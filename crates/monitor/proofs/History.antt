@@ -1,0 +1,137 @@
+-- Demand 3 on areas, by induction on the list: an accepted Start leaves the words of a valid state, each call that meets its contract leaves
+-- the words of the state that the model comes to, and the model is the ledger's (the history theorem on states). Assumes nothing.
+use Prim.Native.Nat.{ℕ, _+_, _≤_}
+use native.Mathlib.Omega.{arith}
+use mathlib.Core.Path.{_≡_, refl, sym, ap, _∙_, subst}
+use mathlib.Core.Logic.{_≢_, _↔_}
+use mathlib.Core.Bool.{Bool, true, false, cond}
+use mathlib.Core.List.{List, [], _∷_, _++_}
+use lib.Dec.{eqb, ltb}
+use lib.ListN.{length, drop}
+use Rattle.model.specs.declared.Shape.{Shape}
+use Rattle.model.specs.declared.Call.{Call}
+use Rattle.model.specs.declared.Answer.{Answer}
+use Rattle.model.specs.Queue.{Queue, inside, bit, count, first, All}
+use Rattle.model.specs.Queue.Queue.{ready}
+use Rattle.model.specs.Field.{Fields}
+use Rattle.model.specs.Field.Field.{running}
+use Rattle.model.specs.Rules.{startCode}
+use Rattle.model.specs.Machine as machine
+use Rattle.model.specs.Machine.{State, model, step, start, after, answers}
+use Rattle.model.specs.Ledger.{ledger}
+use Rattle.model.specs.History.{History, isEntry, isLeaving, tally, end, replies}
+use Rattle.model.specs.Valid.{Valid}
+use Rattle.model.proofs.Tests.{Case, holds, fails, eqb-case, so, not-below}
+use Rattle.model.proofs.Kept.{step-valid, start-valid}
+use Rattle.model.proofs.History.{history}
+use Rattle.area.specs.Layout.{size, Image}
+use Rattle.area.specs.Layout.Part.{locked, waiting}
+use Rattle.area.specs.State.{laid, write}
+use Rattle.area.specs.Reading.{shapeOf, partsOf, stateOf}
+use Rattle.area.specs.Sound.{Says, Sound}
+use Rattle.area.proofs.Whole.{write-image, image-shape}
+use Rattle.area.proofs.States.{laid-spans, state-read, state-says, image-sound}
+use Rattle.calls.specs.Start.{startOn, Starts}
+use Rattle.monitor.specs.Calls.{Performs}
+use Rattle.monitor.specs.History.{Run, Ends}
+use Rattle.monitor.specs.History.Run.{none, then}
+
+-- ws are the words of the valid state s
+pub record Keeps (n : Shape) (ws : List ℕ) (s : State model) : Type 0 where
+  pub valid : Valid n s
+  pub image : Image n ws (laid n s)
+
+-- the words of a valid state, written over any area that is long enough
+pub written : (n : Shape) (old : List ℕ) (s : State model) → Valid n s → size n ≤ length old → Keeps n (write n s old) s
+written n old s v h = record { valid = v; image = write-image n old s (v .placed .counts) h (laid-spans n s (v .placed)) }
+
+module _ {n : Shape} {ws : List ℕ} {s : State model} (K : Keeps n ws s) where
+  pub keeps-sound : Sound ws
+  keeps-sound = image-sound n ws s (K .valid) (K .image)
+
+  pub keeps-shape : shapeOf ws ≡ n
+  keeps-shape = image-shape n ws (laid n s) (K .image)
+
+  pub keeps-state : stateOf ws ≡ s
+  keeps-state = state-read n ws s (K .valid .placed) (K .image)
+
+  pub keeps-says : Says n s ws
+  keeps-says = state-says n ws s (K .valid) (K .image)
+
+  -- one call
+  module _ {c : Call} {new : List ℕ} {a : Answer} (P : Performs c ws new a) where
+    pub step-answer : a ≡ (step model n s c) .1
+    step-answer = P .sound keeps-sound .0 ∙ ap {A = State model} (λ t. (step model (shapeOf ws) t c) .1) keeps-state ∙ ap {A = Shape} (λ m. (step model m s c) .1) keeps-shape
+
+    step-words : new ≡ write n ((step model n s c) .0) ws
+    step-words =
+        P .sound keeps-sound .1
+        ∙ ap {A = State model} (λ t. write (shapeOf ws) ((step model (shapeOf ws) t c) .0) ws) keeps-state
+        ∙ ap {A = Shape} (λ m. write m ((step model m s c) .0) ws) keeps-shape
+
+    pub step-keeps : Keeps n new ((step model n s c) .0)
+    step-keeps = rw step-words (written n ws ((step model n s c) .0) (step-valid n s c (K .valid)) (K .image .long))
+
+-- ---- a list of calls
+
+pub run-answers : {n : Shape} {cs : List Call} {old new : List ℕ} {rs : List Answer} (s : State model) → Keeps n old s → Run cs old new rs → rs ≡ answers model n s cs
+run-answers s K none = refl
+run-answers {n} s K (then {c} P R) = λ i. step-answer K P i ∷ run-answers ((step model n s c) .0) (step-keeps K P) R i
+
+pub run-keeps : {n : Shape} {cs : List Call} {old new : List ℕ} {rs : List Answer} (s : State model) → Keeps n old s → Run cs old new rs → Keeps n new (after model n s cs)
+run-keeps s K none = K
+run-keeps {n} s K (then {c} P R) = run-keeps ((step model n s c) .0) (step-keeps K P) R
+
+-- ---- Start
+
+-- an accepted Start has an accepted code and a long enough area
+pub start-accepted : (n : Shape) (bytes : List ℕ) (words : ℕ) → startOn n bytes words ≡ 0 → (startCode n bytes ≡ 0) × (size n ≤ words)
+start-accepted n bytes words e = go (eqb-case (startCode n bytes) 0) (ltb words (size n)) refl
+  where
+    go : Case (startCode n bytes ≡ 0) (startCode n bytes ≢ 0) (eqb (startCode n bytes) 0) → (b : Bool) → ltb words (size n) ≡ b → (startCode n bytes ≡ 0) × (size n ≤ words)
+    go (fails d z) b k = let w : startCode n bytes ≡ 0 = rw z at e in absurd (d w)
+    go (holds d z) false k = (d, not-below words (size n) k)
+    go (holds d z) true k = let w : _≡_ {A = ℕ} 5 0 = rw (z, k) at e in let y : ⊥ = omega arith in absurd y
+
+pub start-keeps : {n : Shape} {bytes old new : List ℕ} {a : Answer} → startOn n bytes (length old) ≡ 0 → Starts n bytes old new a → Keeps n new ((start model n bytes) .0)
+start-keeps {n} {bytes} {old} e S =
+    let k = start-accepted n bytes (length old) e in
+    rw (S .accepted e .1) (written n old ((start model n bytes) .0) (start-valid n bytes (k .0)) (k .1))
+
+-- ---- demand 3
+
+pub demand3 : {n : Shape} {bytes old begun new : List ℕ} {a : Answer} {cs : List Call} {rs : List Answer}
+    → startOn n bytes (length old) ≡ 0 → Starts n bytes old begun a → Run cs begun new rs → Ends n bytes cs rs new
+demand3 {n} {bytes} {old} {new} {cs} {rs} e S R = record {
+  never-unsound = subst (λ (bs : List Answer). All (λ (b : Answer). b .code ≢ 1) bs) (sym told) (H .never-unsound);
+  sound = keeps-sound K;
+  counts = keeps-shape K;
+  answers = told;
+  queues = λ q. ap {A = State model} (λ t. t .queues q) (keeps-state K) ∙ H .same-queues q;
+  fields = λ f. ap {A = State model} (λ t. t .fields f) (keeps-state K) ∙ ap (λ (g : Fields). g f) (H .same-fields);
+  locks = λ l. locks-are l;
+  waits = λ p. keeps-says K .waits p ∙ ap bit (H .same-waiting p);
+  one-queue = λ p q. ap {A = State model} (λ t. count p (t .queues q)) (keeps-state K) ∙ H .one-queue p q;
+  real-queue = H .real-queue;
+  running-first = subst (λ (t : State model). t .fields running ≡ first (t .queues ready)) (sym (keeps-state K)) (H .running-first);
+  running-none = subst (λ (t : State model). (t .fields running ≡ 0) ↔ (t .queues ready ≡ [])) (sym (keeps-state K)) (H .running-none);
+  entries = λ l. entries-are l;
+}
+  where
+    k : (startCode n bytes ≡ 0) × (size n ≤ length old)
+    k = start-accepted n bytes (length old) e
+
+    H : History n bytes cs
+    H = history n bytes cs (k .0)
+
+    K : Keeps n new (end model n bytes cs)
+    K = run-keeps ((start model n bytes) .0) (start-keeps e S) R
+
+    told : rs ≡ replies ledger n bytes cs
+    told = run-answers ((start model n bytes) .0) (start-keeps e S) R ∙ H .same-replies
+
+    locks-are : (l : ℕ) → partsOf n new (locked l) ≡ bit (machine.locked ((end ledger n bytes cs) .fields) l)
+    locks-are l = keeps-says K .locks l ∙ ap bit (H .same-locked l)
+
+    entries-are : (l : ℕ) → tally (isEntry l) cs rs ≡ tally (isLeaving l) cs rs + partsOf n new (locked l)
+    entries-are l = rw (told, locks-are l) (H .entries l)

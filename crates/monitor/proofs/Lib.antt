@@ -1,0 +1,2 @@
+pub mod Performs
+pub mod History

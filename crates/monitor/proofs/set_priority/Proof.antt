@@ -1,0 +1,44 @@
+-- `monitor::set_priority` meets its contract: an unsound area is refused, and a sound one holds the state that it says, on which the call does its
+-- rule. Assumes nothing.
+use native.Mathlib.Omega.{arith}
+use borrow.Author.Needs.{needs}
+use Rattle.monitor.proofs.Performs.{performs-not, checked, counts-there, stands-at, performs-at}
+use Rattle.monitor.proofs.set_priority.Statement.{statement}
+use Rattle.monitor.proofs.set_priority.Tie as tie
+
+sound-requires : tie.Need-sound-requires
+sound-requires c κs = search needs
+
+refusal-requires : tie.Need-refusal-requires
+refusal-requires c κs = search needs
+
+same-length : tie.Need-same-length
+same-length c = search needs
+
+returns : tie.Need-returns
+returns c = performs-not (c .before .before .sound .result) (c .before .before .sound .ensures) (c .before .if1 .taken) (c .refusal .ensures)
+
+shape-of-requires : tie.Need-shape-of-requires
+shape-of-requires c κs = counts-there (checked (c .before .before .sound .result) (c .before .before .sound .ensures) (c .before .if1 .left))
+
+set-priority-requires : tie.Need-set-priority-requires
+set-priority-requires c κs = stands-at (c .before .shape-of .result) (c .before .shape-of .ensures) (λ i. omega (arith, c .before .before .before .before .before .before .slice-known .given i)) (checked (c .before .before .before .before .sound .result) (c .before .before .before .before .sound .ensures) (c .before .before .before .if1 .left))
+
+same-length-2 : tie.Need-same-length-2
+same-length-2 c = search needs
+
+returns-2 : tie.Need-returns-2
+returns-2 c = performs-at (c .before .before .before .before .shape-of .result) (c .before .before .before .before .shape-of .ensures) (λ i. omega (arith, c .before .before .before .before .before .before .before .before .before .slice-known .given i)) (checked (c .before .before .before .before .before .before .before .sound .result) (c .before .before .before .before .before .before .before .sound .ensures) (c .before .before .before .before .before .before .if1 .left)) (c .before .before .set-priority .ensures)
+
+pub set-priority-spec : {M : Type 1} → statement M
+set-priority-spec =
+    tie.close
+    (tie.spec
+    sound-requires
+    refusal-requires
+    same-length
+    returns
+    shape-of-requires
+    set-priority-requires
+    same-length-2
+    returns-2)

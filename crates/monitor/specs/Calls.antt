@@ -1,0 +1,23 @@
+-- What each of the nine calls, and List, promises of the words: 01's rules, on areas. Assumes nothing.
+use Prim.Native.Nat.{ℕ}
+use mathlib.Core.Path.{_≡_}
+use mathlib.Core.List.{List}
+use Rattle.model.specs.declared.Call.{Call}
+use Rattle.model.specs.declared.Answer.{Answer}
+use Rattle.model.specs.Machine.{model, step, refusal}
+use Rattle.area.specs.State.{write}
+use Rattle.area.specs.Reading.{shapeOf, stateOf}
+use Rattle.area.specs.Sound.{Sound}
+use Rattle.calls.specs.declared.listing.Listed.{Listed}
+use Rattle.calls.specs.Listing.{Unlisted, Lists}
+
+-- an unsound area is refused by 1 and left as it is; a sound one gives the rule's answer and the words of the rule's state, with the words
+-- beyond as they were
+pub record Performs (c : Call) (old new : List ℕ) (a : Answer) : Type 0 where
+  pub unsound : (Sound old → ⊥) → (a ≡ refusal 1) × (new ≡ old)
+  pub sound : Sound old → (a ≡ (step model (shapeOf old) (stateOf old) c) .1) × (new ≡ write (shapeOf old) ((step model (shapeOf old) (stateOf old) c) .0) old)
+
+-- List: an unsound area is refused by 1; a sound one is listed as its state says; a refusal changes no word of the buffer
+pub record ListsOn (kind number : ℕ) (ws old new : List ℕ) (r : Listed) : Type 0 where
+  pub unsound : (Sound ws → ⊥) → Unlisted old new r 1
+  pub sound : Sound ws → Lists kind number (shapeOf ws) (stateOf ws) old new r

@@ -1,0 +1,117 @@
+/* The process kernel: it shares one processor among a probe's tasks, on an area of 16-bit words that the caller lends.
+ *
+ * An area is a plain array of uint16_t. kernel_start makes it ready, and every other call works on it; all that the kernel knows is in
+ * these words. Nothing is kept elsewhere, nothing is allocated, and no call blocks: a call that makes its process wait answers who runs
+ * now, and the firmware switches to that process.
+ *
+ * Processes, monitor locks, conditions and parks are numbered from 1; process 0 means none. Priorities are 0 to 7, 7 the highest.
+ *
+ * Any area, of any length and content, with any numbers beside it, is answered. A refused call changes no word of the area or of a
+ * buffer, and answers zeros beside its code. An area that is not sound (spoiled memory, say) is refused with KERNEL_UNSOUND by every
+ * call but kernel_start, which overwrites it, and kernel_sound, which says 0.
+ *
+ * Lengths are in elements: words of an area or a buffer, bytes of a priority list. The pointers of a call must be valid for the lengths
+ * beside them and properly aligned (2 bytes for words), a pointer of length 0 included, and no two of them may overlap. A call reads no
+ * word of the area beyond its size (KERNEL_AREA_WORDS) and writes none. Calls on one area must not run at the same time: mask
+ * interrupts around a call, or make every call from one place.
+ *
+ * A call takes less than 512 bytes of stack (384 measured at most, on x86-64). */
+#ifndef KERNEL_H
+#define KERNEL_H
+
+#include <stddef.h>
+#include <stdint.h>
+
+#ifdef __cplusplus
+extern "C" {
+#endif
+
+/* ---- answers
+ *
+ * An answer is one number, ten bits a field. kernel_start and the nine changing calls answer five fields: */
+
+#define KERNEL_CODE(a) ((unsigned)((a) & 1023u))            /* 0: accepted, else one of the codes below */
+#define KERNEL_RUNNING(a) ((unsigned)((a) >> 10 & 1023u))   /* the process that runs now, 0 if none is ready */
+#define KERNEL_RETRY(a) ((unsigned)((a) >> 20 & 1023u))     /* 1: this process failed to enter a lock and must enter again */
+#define KERNEL_MARK(a) ((unsigned)((a) >> 30 & 1023u))      /* told at each call; else 0 */
+#define KERNEL_MOVED(a) ((unsigned)((a) >> 40 & 1023u))     /* how many processes came into ready from another queue */
+
+/* kernel_list answers two: the code, and */
+#define KERNEL_COUNT(a) ((unsigned)((a) >> 10 & 1023u))     /* how many processes were written */
+
+/* ---- codes, in the order in which each call tests them as listed there */
+
+#define KERNEL_OK 0
+#define KERNEL_UNSOUND 1      /* the area is not sound */
+#define KERNEL_BAD_COUNT 2    /* a count out of range */
+#define KERNEL_BAD_LIST 3     /* the list is not as long as there are processes */
+#define KERNEL_BAD_PRIORITY 4 /* a priority above 7 */
+#define KERNEL_SHORT 5        /* the area or the buffer is too short */
+#define KERNEL_NOBODY 6       /* nobody runs */
+#define KERNEL_NO_SUCH 7      /* no such lock, condition, park, process or queue */
+#define KERNEL_HELD 8         /* the running process holds the lock already */
+#define KERNEL_NOT_HELD 9     /* the running process does not hold the lock */
+#define KERNEL_NOT_THERE 10   /* the process does not stand in the source queue */
+
+/* ---- the area */
+
+/* how many words an area of these counts takes */
+#define KERNEL_AREA_WORDS(processes, locks, conditions, parks) \
+    (6u + (parks) + 2u * (locks) + (conditions) + 3u * (processes))
+
+/* Makes an area anew, whatever it holds: clock 0, every process in ready by its priority, locks free, no timer. processes 1 to 1,023,
+ * locks and conditions 0 to 255, parks 0 to 8; priorities has one byte for each process. Words beyond the area's size stay.
+ * Codes: 2, 3, 4, 5. */
+uint64_t kernel_start(uint16_t *area, size_t len, uint16_t processes, uint16_t locks, uint16_t conditions, uint16_t parks,
+                      const uint8_t *priorities, size_t count);
+
+/* 1 exactly for a sound area, else 0. */
+uint64_t kernel_sound(const uint16_t *area, size_t len);
+
+/* ---- monitor locks */
+
+/* The running process takes the lock (mark 1), or, where it is held, becomes failed and queues for it (mark 0): when it runs again the
+ * answer has retry 1, and it must enter again. Codes: 1, 6, 7, 8. */
+uint64_t kernel_enter(uint16_t *area, size_t len, uint16_t lock);
+
+/* The running process leaves the lock; the first that queues for it, if any, comes into ready. Codes: 1, 6, 7, 9. */
+uint64_t kernel_exit(uint16_t *area, size_t len, uint16_t lock);
+
+/* ---- conditions */
+
+/* The running process leaves the lock and waits on the condition (mark 1) until it is notified or, if ticks is not 0, that many ticks
+ * have gone by; it must enter the lock again then. If a wakeup was stored by kernel_naked, it takes that and goes on (mark 0).
+ * A wait that would fall due at clock 0 falls due one tick later. Codes: 1, 6, 7, 9. */
+uint64_t kernel_wait(uint16_t *area, size_t len, uint16_t lock, uint16_t condition, uint16_t ticks);
+
+/* The first process that waits on the condition wakes, if there is one. Codes: 1, 6, 7. */
+uint64_t kernel_notify(uint16_t *area, size_t len, uint16_t condition);
+
+/* All processes that wait on the condition wake. Codes: 1, 6, 7. */
+uint64_t kernel_broadcast(uint16_t *area, size_t len, uint16_t condition);
+
+/* A device's notify, for interrupt handlers: the first that waits wakes; if nobody waits, a wakeup is stored (mark 1). Codes: 1, 7. */
+uint64_t kernel_naked(uint16_t *area, size_t len, uint16_t condition);
+
+/* ---- queues, priorities, the clock */
+
+/* Moves a process from one queue to another, or behind its equals in the same: 0 is ready, others are parks. Codes: 1, 7, 10. */
+uint64_t kernel_requeue(uint16_t *area, size_t len, uint16_t source, uint16_t destination, uint16_t process);
+
+/* The running process takes this priority and goes behind its new equals in ready. Codes: 1, 6, 4. */
+uint64_t kernel_set_priority(uint16_t *area, size_t len, uint16_t priority);
+
+/* The clock goes on by one tick, round after 65,535, and every process whose timer falls due wakes. Code: 1. */
+uint64_t kernel_tick(uint16_t *area, size_t len);
+
+/* ---- reads */
+
+/* Writes one queue, first to last, to the front of buffer; the rest of it stays. kind 0 is ready (number 0), 1 a park, 2 a lock, 3 a
+ * condition. Codes: 1, 7, 5. */
+uint64_t kernel_list(const uint16_t *area, size_t len, uint16_t kind, uint16_t number, uint16_t *buffer, size_t buffer_len);
+
+#ifdef __cplusplus
+}
+#endif
+
+#endif

@@ -1,0 +1,124 @@
+//! The library under test through its C exports.
+
+use crate::call::Call;
+
+extern "C" {
+    fn kernel_start(
+        area: *mut u16,
+        len: usize,
+        processes: u16,
+        locks: u16,
+        conditions: u16,
+        parks: u16,
+        priorities: *const u8,
+        count: usize,
+    ) -> u64;
+    fn kernel_sound(area: *const u16, len: usize) -> u64;
+}
+
+#[cfg(feature = "calls")]
+extern "C" {
+    fn kernel_enter(area: *mut u16, len: usize, lock: u16) -> u64;
+    fn kernel_exit(area: *mut u16, len: usize, lock: u16) -> u64;
+    fn kernel_wait(area: *mut u16, len: usize, lock: u16, condition: u16, ticks: u16) -> u64;
+    fn kernel_notify(area: *mut u16, len: usize, condition: u16) -> u64;
+    fn kernel_broadcast(area: *mut u16, len: usize, condition: u16) -> u64;
+    fn kernel_naked(area: *mut u16, len: usize, condition: u16) -> u64;
+    fn kernel_requeue(
+        area: *mut u16,
+        len: usize,
+        source: u16,
+        destination: u16,
+        process: u16,
+    ) -> u64;
+    fn kernel_set_priority(area: *mut u16, len: usize, priority: u16) -> u64;
+    fn kernel_tick(area: *mut u16, len: usize) -> u64;
+}
+
+#[cfg(feature = "list")]
+extern "C" {
+    fn kernel_list(
+        area: *const u16,
+        len: usize,
+        kind: u16,
+        number: u16,
+        buffer: *mut u16,
+        buffer_len: usize,
+    ) -> u64;
+}
+
+pub fn sound(area: &[u16]) -> u64 {
+    unsafe { kernel_sound(area.as_ptr(), area.len()) }
+}
+
+#[cfg(feature = "list")]
+pub fn list(area: &[u16], kind: u16, number: u16, buffer: &mut [u16]) -> u64 {
+    unsafe {
+        kernel_list(
+            area.as_ptr(),
+            area.len(),
+            kind,
+            number,
+            buffer.as_mut_ptr(),
+            buffer.len(),
+        )
+    }
+}
+
+/// Does a call; none if its export isn't tested yet.
+pub fn perform(area: &mut [u16], call: &Call) -> Option<u64> {
+    match call {
+        Call::Start {
+            processes,
+            locks,
+            conditions,
+            parks,
+            priorities,
+        } => Some(unsafe {
+            kernel_start(
+                area.as_mut_ptr(),
+                area.len(),
+                *processes,
+                *locks,
+                *conditions,
+                *parks,
+                priorities.as_ptr(),
+                priorities.len(),
+            )
+        }),
+        _ => one_of_nine(area, call),
+    }
+}
+
+#[cfg(not(feature = "calls"))]
+fn one_of_nine(_: &mut [u16], _: &Call) -> Option<u64> {
+    None
+}
+
+#[cfg(feature = "calls")]
+fn one_of_nine(area: &mut [u16], call: &Call) -> Option<u64> {
+    let (words, len) = (area.as_mut_ptr(), area.len());
+    let answer = unsafe {
+        match *call {
+            Call::Start { .. } => return None,
+            Call::Enter(lock) => kernel_enter(words, len, lock),
+            Call::Exit(lock) => kernel_exit(words, len, lock),
+            Call::Wait {
+                lock,
+                condition,
+                ticks,
+            } => kernel_wait(words, len, lock, condition, ticks),
+            Call::Notify(condition) => kernel_notify(words, len, condition),
+            Call::Broadcast(condition) => kernel_broadcast(words, len, condition),
+            Call::Naked(condition) => kernel_naked(words, len, condition),
+            Call::Requeue {
+                source,
+                destination,
+                process,
+            } => kernel_requeue(words, len, source, destination, process),
+            Call::SetPriority(priority) => kernel_set_priority(words, len, priority),
+            Call::Tick => kernel_tick(words, len),
+        }
+    };
+    Some(answer)
+}

@@ -1,0 +1,783 @@
+//! The kernel on an area of words, written from the definition alone. The area is decoded
+//! into plain lists, the rule is done on them, and the lists are encoded back.
+
+use crate::call::{Answer, Call};
+
+/// The four counts.
+#[derive(Clone, Copy, PartialEq, Eq, Debug)]
+pub struct Shape {
+    pub processes: u16,
+    pub locks: u16,
+    pub conditions: u16,
+    pub parks: u16,
+}
+
+#[derive(Clone, Copy, PartialEq, Eq, Debug)]
+pub enum Queue {
+    Ready,
+    Park(u16),
+    Lock(u16),
+    Condition(u16),
+}
+
+#[derive(Clone, PartialEq, Eq, Debug, Default)]
+pub struct Lock {
+    pub queue: Vec<u16>,
+    pub locked: bool,
+    pub holder: u16,
+}
+
+#[derive(Clone, PartialEq, Eq, Debug, Default)]
+pub struct Condition {
+    pub queue: Vec<u16>,
+    pub wakeup: bool,
+}
+
+#[derive(Clone, PartialEq, Eq, Debug, Default)]
+pub struct Record {
+    pub priority: u16,
+    pub failed: bool,
+    pub waiting: bool,
+    pub timer: u16,
+}
+
+/// What the words of an area say, with every ring as a list from its first to its tail.
+#[derive(Clone, PartialEq, Eq, Debug)]
+pub struct State {
+    pub shape: Shape,
+    pub clock: u16,
+    pub running: u16,
+    pub ready: Vec<u16>,
+    pub parks: Vec<Vec<u16>>,
+    pub locks: Vec<Lock>,
+    pub conditions: Vec<Condition>,
+    pub records: Vec<Record>,
+}
+
+const HEADER: usize = 6;
+const READY_TAIL: usize = 5;
+const RECORD: usize = 3;
+
+impl Shape {
+    pub fn in_range(&self) -> bool {
+        (1..=1023).contains(&self.processes)
+            && self.locks <= 255
+            && self.conditions <= 255
+            && self.parks <= 8
+    }
+
+    pub fn size(&self) -> usize {
+        self.records_at() + RECORD * usize::from(self.processes)
+    }
+
+    fn records_at(&self) -> usize {
+        HEADER
+            + usize::from(self.parks)
+            + 2 * usize::from(self.locks)
+            + usize::from(self.conditions)
+    }
+
+    /// The place of a queue's tail word.
+    pub fn tail_at(&self, queue: Queue) -> usize {
+        let parks = HEADER;
+        let locks = parks + usize::from(self.parks);
+        let conditions = locks + 2 * usize::from(self.locks);
+        match queue {
+            Queue::Ready => READY_TAIL,
+            Queue::Park(number) => parks + usize::from(number) - 1,
+            Queue::Lock(number) => locks + 2 * (usize::from(number) - 1),
+            Queue::Condition(number) => conditions + usize::from(number) - 1,
+        }
+    }
+
+    /// The place of a process's link word; its flags and timer follow.
+    pub fn link_at(&self, process: u16) -> usize {
+        self.records_at() + RECORD * (usize::from(process) - 1)
+    }
+
+    /// All queues in the order of their words.
+    pub fn queues(&self) -> Vec<Queue> {
+        let mut all = vec![Queue::Ready];
+        all.extend((1..=self.parks).map(Queue::Park));
+        all.extend((1..=self.locks).map(Queue::Lock));
+        all.extend((1..=self.conditions).map(Queue::Condition));
+        all
+    }
+}
+
+// Words. Bit 0 is the most significant.
+
+const PROCESS: (u32, u32) = (3, 12);
+const LAST: (u32, u32) = (15, 15);
+const PRIORITY: (u32, u32) = (0, 2);
+const FAILED: (u32, u32) = (13, 13);
+const WAITING: (u32, u32) = (14, 14);
+const WHOLE: (u32, u32) = (0, 15);
+
+fn mask((from, to): (u32, u32)) -> u16 {
+    (from..=to).map(|bit| 1 << (15 - bit)).sum()
+}
+
+fn bits(word: u16, (from, to): (u32, u32)) -> u16 {
+    (word & mask((from, to))) >> (15 - to)
+}
+
+fn put(value: u16, (from, to): (u32, u32)) -> u16 {
+    let word = value << (15 - to);
+    assert_eq!(bits(word, (from, to)), value);
+    word
+}
+
+/// Reads words in their order and refuses a word with an unnamed bit set.
+struct Reader<'a> {
+    words: std::slice::Iter<'a, u16>,
+    processes: u16,
+}
+
+impl Reader<'_> {
+    fn word(&mut self, named: &[(u32, u32)]) -> Option<u16> {
+        let allowed = named.iter().fold(0, |all, &field| all | mask(field));
+        let word = *self.words.next()?;
+        (word & !allowed == 0).then_some(word)
+    }
+
+    fn process(&self, word: u16) -> Option<u16> {
+        let process = bits(word, PROCESS);
+        (process <= self.processes).then_some(process)
+    }
+}
+
+fn read_shape(reader: &mut Reader) -> Option<Shape> {
+    let first = reader.word(&[(6, 15)])?;
+    let second = reader.word(&[(0, 7), (8, 15)])?;
+    let third = reader.word(&[(0, 3)])?;
+    let shape = Shape {
+        processes: bits(first, (6, 15)),
+        locks: bits(second, (0, 7)),
+        conditions: bits(second, (8, 15)),
+        parks: bits(third, (0, 3)),
+    };
+    shape.in_range().then_some(shape)
+}
+
+/// The processes of a ring from its first to its tail; none if the reading doesn't end there.
+fn ring(tail: u16, next: &[u16]) -> Option<Vec<u16>> {
+    let mut members = Vec::new();
+    if tail == 0 {
+        return Some(members);
+    }
+    let mut process = tail;
+    loop {
+        process = next[usize::from(process) - 1];
+        if process == 0 || members.len() == next.len() {
+            return None;
+        }
+        members.push(process);
+        if process == tail {
+            return Some(members);
+        }
+    }
+}
+
+/// Decodes an area in which every field is in range and every ring can be read.
+fn decode(area: &[u16]) -> Option<State> {
+    let mut reader = Reader {
+        words: area.iter(),
+        processes: 0,
+    };
+    let shape = read_shape(&mut reader)?;
+    if area.len() < shape.size() {
+        return None;
+    }
+    reader.processes = shape.processes;
+    let clock = reader.word(&[WHOLE])?;
+    let word = reader.word(&[PROCESS])?;
+    let running = reader.process(word)?;
+    let mut tails = Vec::new();
+    let mut locks = Vec::new();
+    let mut conditions = Vec::new();
+    for queue in shape.queues() {
+        match queue {
+            Queue::Ready | Queue::Park(_) => {
+                let word = reader.word(&[PROCESS])?;
+                tails.push(reader.process(word)?);
+            }
+            Queue::Lock(_) => {
+                let word = reader.word(&[PROCESS, LAST])?;
+                tails.push(reader.process(word)?);
+                let holder = reader.word(&[PROCESS])?;
+                locks.push(Lock {
+                    queue: Vec::new(),
+                    locked: bits(word, LAST) == 1,
+                    holder: reader.process(holder)?,
+                });
+            }
+            Queue::Condition(_) => {
+                let word = reader.word(&[PROCESS, LAST])?;
+                tails.push(reader.process(word)?);
+                conditions.push(Condition {
+                    queue: Vec::new(),
+                    wakeup: bits(word, LAST) == 1,
+                });
+            }
+        }
+    }
+    let mut records = Vec::new();
+    let mut next = Vec::new();
+    for _ in 0..shape.processes {
+        let link = reader.word(&[PRIORITY, PROCESS, FAILED])?;
+        let flags = reader.word(&[WAITING])?;
+        let timer = reader.word(&[WHOLE])?;
+        next.push(reader.process(link)?);
+        records.push(Record {
+            priority: bits(link, PRIORITY),
+            failed: bits(link, FAILED) == 1,
+            waiting: bits(flags, WAITING) == 1,
+            timer,
+        });
+    }
+    let mut state = State {
+        shape,
+        clock,
+        running,
+        ready: Vec::new(),
+        parks: vec![Vec::new(); usize::from(shape.parks)],
+        locks,
+        conditions,
+        records,
+    };
+    for (queue, tail) in shape.queues().into_iter().zip(tails) {
+        *state.queue_mut(queue) = ring(tail, &next)?;
+    }
+    Some(state)
+}
+
+/// The state that a sound area holds; none if the area isn't sound.
+pub fn read(area: &[u16]) -> Option<State> {
+    decode(area).filter(State::valid)
+}
+
+pub fn sound(area: &[u16]) -> bool {
+    read(area).is_some()
+}
+
+impl State {
+    /// Start's state: all processes in ready as fresh arrivals, running not yet dispatched.
+    pub fn fresh(shape: Shape, priorities: &[u8]) -> State {
+        let mut state = State {
+            shape,
+            clock: 0,
+            running: 0,
+            ready: Vec::new(),
+            parks: vec![Vec::new(); usize::from(shape.parks)],
+            locks: vec![Lock::default(); usize::from(shape.locks)],
+            conditions: vec![Condition::default(); usize::from(shape.conditions)],
+            records: Vec::new(),
+        };
+        for (&priority, process) in priorities.iter().zip(1..) {
+            state.records.push(Record {
+                priority: u16::from(priority),
+                ..Record::default()
+            });
+            state.join(process, Queue::Ready);
+        }
+        state
+    }
+
+    pub fn queue(&self, queue: Queue) -> &[u16] {
+        match queue {
+            Queue::Ready => &self.ready,
+            Queue::Park(number) => &self.parks[usize::from(number) - 1],
+            Queue::Lock(number) => &self.lock(number).queue,
+            Queue::Condition(number) => &self.condition(number).queue,
+        }
+    }
+
+    pub fn queue_mut(&mut self, queue: Queue) -> &mut Vec<u16> {
+        match queue {
+            Queue::Ready => &mut self.ready,
+            Queue::Park(number) => &mut self.parks[usize::from(number) - 1],
+            Queue::Lock(number) => &mut self.lock_mut(number).queue,
+            Queue::Condition(number) => &mut self.condition_mut(number).queue,
+        }
+    }
+
+    pub fn lock(&self, number: u16) -> &Lock {
+        &self.locks[usize::from(number) - 1]
+    }
+
+    pub fn lock_mut(&mut self, number: u16) -> &mut Lock {
+        &mut self.locks[usize::from(number) - 1]
+    }
+
+    pub fn condition(&self, number: u16) -> &Condition {
+        &self.conditions[usize::from(number) - 1]
+    }
+
+    pub fn condition_mut(&mut self, number: u16) -> &mut Condition {
+        &mut self.conditions[usize::from(number) - 1]
+    }
+
+    pub fn record(&self, process: u16) -> &Record {
+        &self.records[usize::from(process) - 1]
+    }
+
+    pub fn record_mut(&mut self, process: u16) -> &mut Record {
+        &mut self.records[usize::from(process) - 1]
+    }
+
+    /// The queue in which a process of a valid state stands.
+    pub fn lies(&self, process: u16) -> Queue {
+        let mut queues = self.shape.queues().into_iter();
+        queues
+            .find(|&queue| self.queue(queue).contains(&process))
+            .expect("each process stands in a queue")
+    }
+
+    fn join(&mut self, process: u16, queue: Queue) {
+        let priority = self.record(process).priority;
+        let members = self.queue(queue);
+        let place = members
+            .iter()
+            .position(|&other| self.record(other).priority < priority)
+            .unwrap_or(members.len());
+        self.queue_mut(queue).insert(place, process);
+    }
+
+    // Soundness, clause by clause, over fields that are in range.
+
+    pub fn valid(&self) -> bool {
+        self.each_stands_once()
+            && self.no_ring_rises()
+            && self.running_is_first_and_not_failed()
+            && self.waiting_exactly_in_conditions()
+            && self.timers_only_where_waiting()
+            && self.failed_as_the_rings_say()
+            && self.locked_exactly_when_held()
+            && self.no_holder_in_its_own_ring()
+            && self.wakeup_only_over_an_empty_ring()
+    }
+
+    fn each_stands_once(&self) -> bool {
+        let mut times = vec![0; self.records.len()];
+        for queue in self.shape.queues() {
+            for &process in self.queue(queue) {
+                times[usize::from(process) - 1] += 1;
+            }
+        }
+        times.iter().all(|&count| count == 1)
+    }
+
+    fn no_ring_rises(&self) -> bool {
+        self.shape.queues().into_iter().all(|queue| {
+            self.queue(queue)
+                .windows(2)
+                .all(|pair| self.record(pair[0]).priority >= self.record(pair[1]).priority)
+        })
+    }
+
+    fn running_is_first_and_not_failed(&self) -> bool {
+        match self.ready.first() {
+            None => self.running == 0,
+            Some(&first) => self.running == first && !self.record(first).failed,
+        }
+    }
+
+    fn waiting_exactly_in_conditions(&self) -> bool {
+        self.shape.queues().into_iter().all(|queue| {
+            let inside = matches!(queue, Queue::Condition(_));
+            self.queue(queue)
+                .iter()
+                .all(|&process| self.record(process).waiting == inside)
+        })
+    }
+
+    fn timers_only_where_waiting(&self) -> bool {
+        self.records
+            .iter()
+            .all(|record| record.waiting || record.timer == 0)
+    }
+
+    fn failed_as_the_rings_say(&self) -> bool {
+        let failed = |&process: &u16| self.record(process).failed;
+        let mut in_locks = self.locks.iter().flat_map(|lock| &lock.queue);
+        let mut in_conditions = self.conditions.iter().flat_map(|one| &one.queue);
+        in_locks.all(failed) && !in_conditions.any(failed)
+    }
+
+    fn locked_exactly_when_held(&self) -> bool {
+        self.locks
+            .iter()
+            .all(|lock| lock.locked == (lock.holder != 0))
+    }
+
+    fn no_holder_in_its_own_ring(&self) -> bool {
+        self.locks
+            .iter()
+            .all(|lock| !lock.queue.contains(&lock.holder))
+    }
+
+    fn wakeup_only_over_an_empty_ring(&self) -> bool {
+        self.conditions
+            .iter()
+            .all(|one| !one.wakeup || one.queue.is_empty())
+    }
+
+    /// The words of the state, valid or not. A process in no queue gets next 0.
+    pub fn words(&self) -> Vec<u16> {
+        let shape = &self.shape;
+        let tail = |queue: &[u16]| put(queue.last().copied().unwrap_or(0), PROCESS);
+        let mut words = vec![
+            put(shape.processes, (6, 15)),
+            put(shape.locks, (0, 7)) | put(shape.conditions, (8, 15)),
+            put(shape.parks, (0, 3)),
+            self.clock,
+            put(self.running, PROCESS),
+            tail(&self.ready),
+        ];
+        words.extend(self.parks.iter().map(|queue| tail(queue)));
+        for lock in &self.locks {
+            words.push(tail(&lock.queue) | put(u16::from(lock.locked), LAST));
+            words.push(put(lock.holder, PROCESS));
+        }
+        for one in &self.conditions {
+            words.push(tail(&one.queue) | put(u16::from(one.wakeup), LAST));
+        }
+        for (record, next) in self.records.iter().zip(self.next()) {
+            words.push(
+                put(record.priority, PRIORITY)
+                    | put(next, PROCESS)
+                    | put(u16::from(record.failed), FAILED),
+            );
+            words.push(put(u16::from(record.waiting), WAITING));
+            words.push(record.timer);
+        }
+        words
+    }
+
+    fn next(&self) -> Vec<u16> {
+        let mut next = vec![0; self.records.len()];
+        for queue in self.shape.queues() {
+            let members = self.queue(queue);
+            for (place, &process) in members.iter().enumerate() {
+                next[usize::from(process) - 1] = members[(place + 1) % members.len()];
+            }
+        }
+        next
+    }
+
+    fn write(&self, area: &mut [u16]) {
+        let words = self.words();
+        area[..words.len()].copy_from_slice(&words);
+    }
+}
+
+// Calls.
+
+/// A call at work: the state, and what the answer will say.
+struct Step {
+    state: State,
+    mark: u16,
+    moved: u16,
+}
+
+type Done = Result<(), u16>;
+
+/// Does a call on an area and answers it.
+pub fn perform(area: &mut [u16], call: &Call) -> Answer {
+    if let Call::Start {
+        processes,
+        locks,
+        conditions,
+        parks,
+        priorities,
+    } = call
+    {
+        let shape = Shape {
+            processes: *processes,
+            locks: *locks,
+            conditions: *conditions,
+            parks: *parks,
+        };
+        return start(area, shape, priorities);
+    }
+    let Some(state) = read(area) else {
+        return Answer::refusal(1);
+    };
+    let mut step = Step {
+        state,
+        mark: 0,
+        moved: 0,
+    };
+    match step.rule(call) {
+        Err(code) => Answer::refusal(code),
+        Ok(()) => step.finish(area),
+    }
+}
+
+fn start(area: &mut [u16], shape: Shape, priorities: &[u8]) -> Answer {
+    if !shape.in_range() {
+        return Answer::refusal(2);
+    }
+    if priorities.len() != usize::from(shape.processes) {
+        return Answer::refusal(3);
+    }
+    if priorities.iter().any(|&priority| priority > 7) {
+        return Answer::refusal(4);
+    }
+    if area.len() < shape.size() {
+        return Answer::refusal(5);
+    }
+    let step = Step {
+        state: State::fresh(shape, priorities),
+        mark: 0,
+        moved: 0,
+    };
+    step.finish(area)
+}
+
+fn known(number: u16, count: u16) -> Done {
+    if number == 0 || number > count {
+        return Err(7);
+    }
+    Ok(())
+}
+
+impl Step {
+    fn rule(&mut self, call: &Call) -> Done {
+        match *call {
+            Call::Start { .. } => unreachable!("Start reads no old content"),
+            Call::Enter(lock) => self.enter(lock),
+            Call::Exit(lock) => self.exit(lock),
+            Call::Wait {
+                lock,
+                condition,
+                ticks,
+            } => self.wait(lock, condition, ticks),
+            Call::Notify(condition) => self.notify(condition),
+            Call::Broadcast(condition) => self.broadcast(condition),
+            Call::Naked(condition) => self.naked(condition),
+            Call::Requeue {
+                source,
+                destination,
+                process,
+            } => self.requeue(source, destination, process),
+            Call::SetPriority(priority) => self.set_priority(priority),
+            Call::Tick => self.tick(),
+        }
+    }
+
+    /// Dispatch, then the words and the answer.
+    fn finish(mut self, area: &mut [u16]) -> Answer {
+        let first = self.state.ready.first().copied().unwrap_or(0);
+        self.state.running = first;
+        let mut retry = 0;
+        if first != 0 && self.state.record(first).failed {
+            self.state.record_mut(first).failed = false;
+            retry = 1;
+        }
+        self.state.write(area);
+        Answer {
+            code: 0,
+            running: first,
+            retry,
+            mark: self.mark,
+            moved: self.moved,
+        }
+    }
+
+    fn move_to(&mut self, process: u16, queue: Queue) {
+        let from = self.state.lies(process);
+        self.state
+            .queue_mut(from)
+            .retain(|&member| member != process);
+        self.state.join(process, queue);
+        if queue == Queue::Ready && from != Queue::Ready {
+            self.moved += 1;
+        }
+    }
+
+    fn wake(&mut self, process: u16) {
+        let record = self.state.record_mut(process);
+        record.waiting = false;
+        record.timer = 0;
+        self.move_to(process, Queue::Ready);
+    }
+
+    fn somebody_runs(&self) -> Done {
+        if self.state.running == 0 {
+            return Err(6);
+        }
+        Ok(())
+    }
+
+    fn running_holds(&self, lock: u16) -> bool {
+        self.state.lock(lock).holder == self.state.running
+    }
+
+    fn enter(&mut self, lock: u16) -> Done {
+        self.somebody_runs()?;
+        known(lock, self.state.shape.locks)?;
+        if self.running_holds(lock) {
+            return Err(8);
+        }
+        let running = self.state.running;
+        if self.state.lock(lock).locked {
+            self.state.record_mut(running).failed = true;
+            self.move_to(running, Queue::Lock(lock));
+        } else {
+            self.state.lock_mut(lock).locked = true;
+            self.state.lock_mut(lock).holder = running;
+            self.mark = 1;
+        }
+        Ok(())
+    }
+
+    fn exit(&mut self, lock: u16) -> Done {
+        self.somebody_runs()?;
+        known(lock, self.state.shape.locks)?;
+        if !self.running_holds(lock) {
+            return Err(9);
+        }
+        self.unlock(lock);
+        Ok(())
+    }
+
+    fn unlock(&mut self, lock: u16) {
+        self.state.lock_mut(lock).locked = false;
+        self.state.lock_mut(lock).holder = 0;
+        if let Some(&first) = self.state.lock(lock).queue.first() {
+            self.move_to(first, Queue::Ready);
+        }
+    }
+
+    fn wait(&mut self, lock: u16, condition: u16, ticks: u16) -> Done {
+        self.somebody_runs()?;
+        known(lock, self.state.shape.locks)?;
+        known(condition, self.state.shape.conditions)?;
+        if !self.running_holds(lock) {
+            return Err(9);
+        }
+        self.unlock(lock);
+        if self.state.condition(condition).wakeup {
+            self.state.condition_mut(condition).wakeup = false;
+            return Ok(());
+        }
+        let caller = self.state.running;
+        let timer = timer(self.state.clock, ticks);
+        let record = self.state.record_mut(caller);
+        record.timer = timer;
+        record.waiting = true;
+        self.move_to(caller, Queue::Condition(condition));
+        self.mark = 1;
+        Ok(())
+    }
+
+    fn notify(&mut self, condition: u16) -> Done {
+        self.somebody_runs()?;
+        known(condition, self.state.shape.conditions)?;
+        if let Some(&first) = self.state.condition(condition).queue.first() {
+            self.wake(first);
+        }
+        Ok(())
+    }
+
+    fn broadcast(&mut self, condition: u16) -> Done {
+        self.somebody_runs()?;
+        known(condition, self.state.shape.conditions)?;
+        for process in self.state.condition(condition).queue.clone() {
+            self.wake(process);
+        }
+        Ok(())
+    }
+
+    fn naked(&mut self, condition: u16) -> Done {
+        known(condition, self.state.shape.conditions)?;
+        if let Some(&first) = self.state.condition(condition).queue.first() {
+            self.wake(first);
+        } else {
+            self.state.condition_mut(condition).wakeup = true;
+            self.mark = 1;
+        }
+        Ok(())
+    }
+
+    fn requeue(&mut self, source: u16, destination: u16, process: u16) -> Done {
+        let source = self.ready_or_park(source)?;
+        let destination = self.ready_or_park(destination)?;
+        known(process, self.state.shape.processes)?;
+        if !self.state.queue(source).contains(&process) {
+            return Err(10);
+        }
+        self.move_to(process, destination);
+        Ok(())
+    }
+
+    fn ready_or_park(&self, number: u16) -> Result<Queue, u16> {
+        if number == 0 {
+            return Ok(Queue::Ready);
+        }
+        known(number, self.state.shape.parks)?;
+        Ok(Queue::Park(number))
+    }
+
+    fn set_priority(&mut self, priority: u16) -> Done {
+        self.somebody_runs()?;
+        if priority > 7 {
+            return Err(4);
+        }
+        let running = self.state.running;
+        self.state.record_mut(running).priority = priority;
+        self.move_to(running, Queue::Ready);
+        Ok(())
+    }
+
+    fn tick(&mut self) -> Done {
+        self.state.clock = self.state.clock.wrapping_add(1);
+        for process in 1..=self.state.shape.processes {
+            let timer = self.state.record(process).timer;
+            if timer != 0 && timer == self.state.clock {
+                self.wake(process);
+            }
+        }
+        Ok(())
+    }
+}
+
+fn timer(clock: u16, ticks: u16) -> u16 {
+    if ticks == 0 {
+        return 0;
+    }
+    match (u32::from(clock) + u32::from(ticks)) % 65_536 {
+        0 => 1,
+        sum => sum as u16,
+    }
+}
+
+/// The queue that a kind and a number name.
+fn named_queue(shape: &Shape, kind: u16, number: u16) -> Option<Queue> {
+    let queue = match kind {
+        0 => return (number == 0).then_some(Queue::Ready),
+        1 => known(number, shape.parks).map(|()| Queue::Park(number)),
+        2 => known(number, shape.locks).map(|()| Queue::Lock(number)),
+        3 => known(number, shape.conditions).map(|()| Queue::Condition(number)),
+        _ => return None,
+    };
+    queue.ok()
+}
+
+/// List: writes a queue into the buffer, first to last; answers code and count.
+pub fn list(area: &[u16], kind: u16, number: u16, buffer: &mut [u16]) -> (u16, u16) {
+    let Some(state) = read(area) else {
+        return (1, 0);
+    };
+    let Some(queue) = named_queue(&state.shape, kind, number) else {
+        return (7, 0);
+    };
+    let members = state.queue(queue);
+    if buffer.len() < members.len() {
+        return (5, 0);
+    }
+    buffer[..members.len()].copy_from_slice(members);
+    (0, members.len() as u16)
+}
