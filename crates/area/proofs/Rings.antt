@@ -86,15 +86,15 @@ after-ring (x ∷ xs) d = let r = after-chain x x xs d in (r .1, r .0)
 
 -- ---- the queues that the counts give
 
-abbrev In : Queue → List Queue → Type 0
+abbrev pub In : Queue → List Queue → Type 0
 In q [] = ⊥
 In q (r ∷ rs) = (q ≡ r) ⊎ In q rs
 
-in-left : (q : Queue) (xs ys : List Queue) → In q xs → In q (xs ++ ys)
+pub in-left : (q : Queue) (xs ys : List Queue) → In q xs → In q (xs ++ ys)
 in-left q (x ∷ xs) ys (inl e) = inl e
 in-left q (x ∷ xs) ys (inr i) = inr (in-left q xs ys i)
 
-in-right : (q : Queue) (xs ys : List Queue) → In q ys → In q (xs ++ ys)
+pub in-right : (q : Queue) (xs ys : List Queue) → In q ys → In q (xs ++ ys)
 in-right q [] ys i = i
 in-right q (x ∷ xs) ys i = inr (in-right q xs ys i)
 

@@ -104,7 +104,7 @@ read-ring nx k (x ∷ xs) c d z h =
     rw (eqb-no (lastOf x xs) 0 (omega arith), c .0) (read-chain nx (lastOf x xs) k x xs refl (c .1) d h)
 
 -- what is read is a chain
-chain-read : (nx : ℕ → ℕ) (t k a p : ℕ) → nx a ≡ p → Linked nx a (readFrom nx t k p)
+pub chain-read : (nx : ℕ → ℕ) (t k a p : ℕ) → nx a ≡ p → Linked nx a (readFrom nx t k p)
 chain-read nx t zero a p e = tt
 chain-read nx t (suc k) a p e = (e, go (eqb p t) (chain-read nx t k p (nx p) refl))
   where

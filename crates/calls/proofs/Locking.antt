@@ -21,7 +21,7 @@ use Rattle.model.proofs.Loops.{released-moved}
 use Rattle.area.specs.Holds.{Holds, Becomes, with, sent}
 use Rattle.calls.specs.Parts.{Gives, Does, changed}
 use Rattle.calls.proofs.Outcomes.{unless-yes, unless-no, choose-yes, choose-no, refuses, accepts}
-use Rattle.calls.proofs.Shared.{first-none, first-alone}
+use Rattle.calls.proofs.Numbers.{first-only, nobody-first}
 
 -- ---- the rules, with r the running process and h the lock's holder
 
@@ -96,8 +96,8 @@ module _ {n : Shape} {old : List ℕ} {s : State model} (H : Holds n old s) (l :
 module _ {n : Shape} {old new : List ℕ} {s : State model} (H : Holds n old s) (l : ℕ) {x : ℕ} (e : x ≡ first (s .queues (lock l))) where
   pub release-none : x ≡ 0 → Becomes n old new (with (holder l) 0 s)
       → (_≡_ {A = ℕ} 0 (length (firstOnly (s .queues (lock l))))) × Becomes n old new (changed (put (holder l) 0 (s .fields)) (released (s .queues) l) s)
-  release-none z b = let k = first-none H (lock l) e z in (rw k, rw k b)
+  release-none z b = let k = nobody-first H (lock l) e z in (rw k, rw k b)
 
   pub release-first : x ≢ 0 → Becomes n old new (sent x ready (with (holder l) 0 s))
       → (_≡_ {A = ℕ} 1 (length (firstOnly (s .queues (lock l))))) × Becomes n old new (changed (put (holder l) 0 (s .fields)) (released (s .queues) l) s)
-  release-first z b = let k = first-alone (s .queues (lock l)) e z in (rw k, rw k b)
+  release-first z b = let k = first-only (s .queues (lock l)) e z in (rw k, rw k b)

@@ -18,10 +18,16 @@ use Rattle.area.proofs.Rings.{member-inside}
 
 -- ---- tests on a number
 
+pub zero-outside : (n : ℕ) {i : ℕ} → i ≡ 0 → outside n i ≡ true
+zero-outside n {i} e = rw (eqb-yes i 0 e)
+
+pub above-outside : {n i : ℕ} → n < i → outside n i ≡ true
+above-outside {n} {i} h = rw (leb-yes (suc n) i h, or-true)
+
 module _ (n i : ℕ) where
   pub is-outside : (i ≡ 0) ⊎ (n < i) → outside n i ≡ true
-  is-outside (inl e) = rw (eqb-yes i 0 e)
-  is-outside (inr h) = rw (leb-yes (suc n) i (omega arith), or-true)
+  is-outside (inl e) = zero-outside n e
+  is-outside (inr h) = above-outside h
 
   pub is-inside : i ≢ 0 → i ≤ n → inside n i ≡ true
   is-inside a b = bounds-inside n i (omega arith) b
@@ -46,8 +52,12 @@ member-some {n} {ws} {s} H q p m e = let b = inside-bounds (n .processes) p (mem
 pub nobody-first : {n : Shape} {ws : List ℕ} {s : State model} → Holds n ws s → (q : Queue) {f : ℕ} → f ≡ first (s .queues q) → f ≡ 0 → s .queues q ≡ []
 nobody-first {s = s} H q e z = no-first (s .queues q) (member-some H q) (sym e ∙ z)
 
+-- it is there unless it is 0
+pub first-stands : (xs : List ℕ) {x : ℕ} → x ≡ first xs → x ≢ 0 → member x xs ≡ true
+first-stands xs e h = rw e (first-member xs (λ z. h (e ∙ z)))
+
 pub first-there : {n : Shape} {ws : List ℕ} {s : State model} → Holds n ws s → (q : Queue) {f : ℕ} → f ≡ first (s .queues q) → f ≢ 0 → member f (s .queues q) ≡ true
-first-there {s = s} H q e h = rw e (first-member (s .queues q) (λ z. h (e ∙ z)))
+first-there {s = s} H q e h = first-stands (s .queues q) e h
 
 -- ---- lengths
 

@@ -22,10 +22,7 @@ use Rattle.calls.specs.Listing.{queueBy, isQueue, Lists}
 abbrev pub placeBy : Shape → ℕ → ℕ → ℕ
 placeBy n kind i = cond (isQueue n kind i) (at n (Tail (queueBy kind i))) 0
 
--- numbers up to the last, and beyond it
-pub among : (m i : ℕ) → i ≢ 0 → i ≤ m → inside m i ≡ true
-among m i h l = bounds-inside m i (omega arith) l
-
+-- a number beyond the last
 pub beyond : (m i : ℕ) → m < i → inside m i ≡ false
 beyond m i h = denied (inside m i) (λ t. let b = inside-bounds m i t in omega arith)
 

@@ -59,7 +59,7 @@ remove-absent p (x ∷ xs) e = go (eqb x p) refl (remove-absent p xs)
     go false d ih = let k : 0 + count p xs ≡ 0 = rw d at e in rw (d, ih (omega arith))
 
 -- a list is as long as what is left without p, and p's places
-length-remove : (p : ℕ) (xs : List ℕ) → length xs ≡ length (remove p xs) + count p xs
+pub length-remove : (p : ℕ) (xs : List ℕ) → length xs ≡ length (remove p xs) + count p xs
 length-remove p [] = refl
 length-remove p (x ∷ xs) = go (eqb x p) (length-remove p xs)
   where

@@ -10,6 +10,8 @@ ghost use Rattle.model.specs.declared.Call.the-variants.{Enter, Exit, Wait, Not
 ghost use Rattle.monitor.specs.Calls.{Performs, ListsOn};
 ghost use Rattle.monitor.specs.Wire.{packed, packedList};
 
+pub mod replay;
+
 // ---- the nine calls
 
 // Enter: take the lock, or queue for it.

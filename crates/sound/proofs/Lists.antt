@@ -12,24 +12,13 @@ use Rattle.model.specs.declared.Shape.{Shape}
 use Rattle.model.specs.Queue.{Queue, inside, bit, same, exists, count, remove, All}
 use Rattle.model.specs.Queue.Queue.{ready, park, lock, condition}
 use Rattle.model.proofs.Tests.{stops, same-case, same-yes, eqb-yes, eqb-no, inside-bounds, bounds-inside, bit-small}
-use Rattle.model.proofs.Lists.{at-most, count-remove-other}
+use Rattle.model.proofs.Lists.{at-most, count-remove-other, length-remove}
+use Rattle.area.proofs.Rings.{In, in-left, in-right}
 use Rattle.sound.specs.Walk.{kindOf, queueAt, queuesOf}
 use Rattle.sound.specs.Parts.{numberOf}
 use Rattle.sound.proofs.Queues.{kind-at}
 
 -- ---- a queue in a list
-
-abbrev pub In : Queue → List Queue → Type 0
-In q [] = ⊥
-In q (r ∷ rs) = (q ≡ r) ⊎ In q rs
-
-in-left : (q : Queue) (xs ys : List Queue) → In q xs → In q (xs ++ ys)
-in-left q (x ∷ xs) ys (inl e) = inl e
-in-left q (x ∷ xs) ys (inr i) = inr (in-left q xs ys i)
-
-in-right : (q : Queue) (xs ys : List Queue) → In q ys → In q (xs ++ ys)
-in-right q [] ys i = i
-in-right q (x ∷ xs) ys i = inr (in-right q xs ys i)
 
 in-either : (q : Queue) (xs ys : List Queue) → In q (xs ++ ys) → In q xs ⊎ In q ys
 in-either q [] ys i = inr i
@@ -210,14 +199,6 @@ module _ (n : Shape) where
       one (condition c) = refl
 
 -- ---- how many processes a list has
-
-length-remove : (p : ℕ) (xs : List ℕ) → length xs ≡ length (remove p xs) + count p xs
-length-remove p [] = refl
-length-remove p (x ∷ xs) = go (eqb x p) (length-remove p xs)
-  where
-    go : (b : Bool) → length xs ≡ length (remove p xs) + count p xs → length (x ∷ xs) ≡ length (cond b (remove p xs) (x ∷ remove p xs)) + (bit b + count p xs)
-    go true ih = omega arith
-    go false ih = omega arith
 
 -- those who have each of 1 to n are at least n
 at-least : (n : ℕ) (xs : List ℕ) → ((p : ℕ) → inside n p ≡ true → 1 ≤ count p xs) → n ≤ length xs

@@ -25,7 +25,7 @@ use Rattle.area.specs.Reading.{shapeOf, partsOf, readFrom, stateOf}
 use Rattle.area.specs.Sound.{Sound}
 use Rattle.area.proofs.Whole.{Counts, counts-in}
 use Rattle.area.proofs.Rings.{last-member, ring-ext, member-inside}
-use Rattle.area.proofs.States.{Words}
+use Rattle.area.proofs.States.{Words, chain-read}
 use Rattle.sound.specs.Walk.{recordAt, linkIn, nextIn, kindOf, tailWord, holderWord}
 use Rattle.sound.specs.Parts.{Counted, Runs}
 use Rattle.sound.proofs.Tests.{Fits, Headed}
@@ -33,15 +33,6 @@ use Rattle.sound.proofs.Chains.{Member, member-all}
 use Rattle.sound.proofs.Lists.{hits, every, every-once}
 use Rattle.sound.proofs.Visits.{reading, total, Visited, tail-part, next-part, total-hits}
 use Rattle.sound.proofs.Whole.{Whole, falling-ext}
-
--- what is read is a chain
-chain-read : (nx : ℕ → ℕ) (t k a p : ℕ) → nx a ≡ p → Linked nx a (readFrom nx t k p)
-chain-read nx t zero a p e = tt
-chain-read nx t (suc k) a p e = (e, go (eqb p t) (chain-read nx t k p (nx p) refl))
-  where
-    go : (b : Bool) → Linked nx p (readFrom nx t k (nx p)) → Linked nx p (cond b [] (readFrom nx t k (nx p)))
-    go true c = tt
-    go false c = c
 
 module _ (ws : List ℕ) (small : Words ws) (S : Sound ws) where
   abbrev n : Shape

@@ -19,7 +19,8 @@ use Rattle.area.proofs.States.{Words, read-ring}
 use Rattle.sound.specs.Walk.{nextIn, heading, kindOf, tailWord, holderWord, visit, visits, then}
 use Rattle.sound.proofs.Tests.{Headed, heading-is, is-heading}
 use Rattle.sound.proofs.Chains.{Member, Ringed, ring-read, ring-full, all-member, onto, count-onto}
-use Rattle.sound.proofs.Lists.{In, hits}
+use Rattle.area.proofs.Rings.{In}
+use Rattle.sound.proofs.Lists.{hits}
 
 -- the reading of a queue
 abbrev pub reading : List ℕ → Queue → List ℕ

@@ -1,6 +1,7 @@
 -- `calls::listing::queue_at` meets its contract: a kind by a kind, and the number against the count of that kind. Assumes nothing.
 use Rattle.model.proofs.Tests.{eqb-yes, eqb-no}
-use Rattle.calls.proofs.QueueBy.{among, beyond, placed, unplaced, number-0, no-kind, park-place}
+use Rattle.calls.proofs.Numbers.{is-inside}
+use Rattle.calls.proofs.QueueBy.{beyond, placed, unplaced, number-0, no-kind, park-place}
 use mathlib.Core.Path.{refl}
 use borrow.Author.Needs.{needs}
 use Rattle.calls.proofs.listing.queue_at.Statement.{statement}
@@ -35,7 +36,7 @@ park-at-requires c κs = search needs
 returns-5 : tie.Need-returns-5
 returns-5 c =
     let a = c .before .before .before .before .before .before .args in
-    placed (a .shape) (a .number) 1 (c .before .before .before .if4 .taken) (among _ _ (c .before .before .before .before .if3 .left) (c .before .if5 .left)) (park-place (a .shape) (a .number) (c .before .before .before .before .if3 .left) (c .park-at .ensures (a .shape)))
+    placed (a .shape) (a .number) 1 (c .before .before .before .if4 .taken) (is-inside _ _ (c .before .before .before .before .if3 .left) (c .before .if5 .left)) (park-place (a .shape) (a .number) (c .before .before .before .before .if3 .left) (c .park-at .ensures (a .shape)))
 
 returns-6 : tie.Need-returns-6
 returns-6 c =
@@ -43,12 +44,12 @@ returns-6 c =
     unplaced (a .shape) (a .number) 2 (c .before .before .if6 .taken) (beyond _ _ (c .if7 .taken))
 
 lock-at-requires : tie.Need-lock-at-requires
-lock-at-requires c κs = among _ _ (c .before .before .before .before .if3 .left) (c .if7 .left)
+lock-at-requires c κs = is-inside _ _ (c .before .before .before .before .if3 .left) (c .if7 .left)
 
 returns-7 : tie.Need-returns-7
 returns-7 c =
     let a = c .before .before .before .before .before .before .before .args in
-    placed (a .shape) (a .number) 2 (c .before .before .before .if6 .taken) (among _ _ (c .before .before .before .before .before .if3 .left) (c .before .if7 .left)) (c .lock-at .ensures)
+    placed (a .shape) (a .number) 2 (c .before .before .before .if6 .taken) (is-inside _ _ (c .before .before .before .before .before .if3 .left) (c .before .if7 .left)) (c .lock-at .ensures)
 
 returns-8 : tie.Need-returns-8
 returns-8 c =
@@ -56,12 +57,12 @@ returns-8 c =
     unplaced (a .shape) (a .number) 3 (c .before .before .if8 .taken) (beyond _ _ (c .if9 .taken))
 
 condition-at-requires : tie.Need-condition-at-requires
-condition-at-requires c κs = among _ _ (c .before .before .before .before .before .if3 .left) (c .if9 .left)
+condition-at-requires c κs = is-inside _ _ (c .before .before .before .before .before .if3 .left) (c .if9 .left)
 
 returns-9 : tie.Need-returns-9
 returns-9 c =
     let a = c .before .before .before .before .before .before .before .before .args in
-    placed (a .shape) (a .number) 3 (c .before .before .before .if8 .taken) (among _ _ (c .before .before .before .before .before .before .if3 .left) (c .before .if9 .left)) (c .condition-at .ensures)
+    placed (a .shape) (a .number) 3 (c .before .before .before .if8 .taken) (is-inside _ _ (c .before .before .before .before .before .before .if3 .left) (c .before .if9 .left)) (c .condition-at .ensures)
 
 returns-10 : tie.Need-returns-10
 returns-10 c =

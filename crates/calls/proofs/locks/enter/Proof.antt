@@ -1,5 +1,6 @@
 -- `calls::locks::enter` meets its contract: its tests in the rule's order; a free lock is taken, and for a held one who runs blocks. Assumes nothing.
-use Rattle.calls.proofs.Shared.{zero-outside, above-outside, between, runner-stands, runner-small}
+use Rattle.calls.proofs.Shared.{runner-stands, runner-small}
+use Rattle.calls.proofs.Numbers.{above-outside, is-inside, zero-outside}
 use Rattle.calls.proofs.Locking.{enter-nobody, enter-no-lock, enter-own, enter-free, enter-taken}
 use borrow.Author.Needs.{needs}
 use Rattle.calls.proofs.locks.enter.Statement.{statement}
@@ -36,7 +37,7 @@ returns-3 : tie.Need-returns-3
 returns-3 c = λ s H v. enter-no-lock H (c .before .before .before .before .before .before .before .before .args .lock) (c .before .before .before .before .before .running-of .ensures (c .before .before .before .before .before .before .before .before .args .shape) s H) (c .before .before .before .before .if1 .left) (above-outside (c .before .if3 .taken)) (c .refusal3 .ensures)
 
 holder-of-requires : tie.Need-holder-of-requires
-holder-of-requires c κs = ((c .before .before .before .before .before .before .before .before .pre .state, c .before .before .before .before .before .before .before .before .pre .holds), (between (c .before .before .before .if2 .left) (c .before .if3 .left)))
+holder-of-requires c κs = ((c .before .before .before .before .before .before .before .before .pre .state, c .before .before .before .before .before .before .before .before .pre .holds), (is-inside _ _ (c .before .before .before .if2 .left) (c .before .if3 .left)))
 
 refusal-requires-4 : tie.Need-refusal-requires-4
 refusal-requires-4 c κs = search needs
@@ -45,10 +46,10 @@ same-length-4 : tie.Need-same-length-4
 same-length-4 c = search needs
 
 returns-4 : tie.Need-returns-4
-returns-4 c = λ s H v. enter-own H (c .before .before .before .before .before .before .before .before .before .before .before .args .lock) (c .before .before .before .before .before .before .before .before .running-of .ensures (c .before .before .before .before .before .before .before .before .before .before .before .args .shape) s H) (c .before .before .before .before .before .before .before .if1 .left) (between (c .before .before .before .before .before .before .if2 .left) (c .before .before .before .before .if3 .left)) (c .before .before .holder-of .ensures s H) (c .before .if4 .taken) (c .refusal4 .ensures)
+returns-4 c = λ s H v. enter-own H (c .before .before .before .before .before .before .before .before .before .before .before .args .lock) (c .before .before .before .before .before .before .before .before .running-of .ensures (c .before .before .before .before .before .before .before .before .before .before .before .args .shape) s H) (c .before .before .before .before .before .before .before .if1 .left) (is-inside _ _ (c .before .before .before .before .before .before .if2 .left) (c .before .before .before .before .if3 .left)) (c .before .before .holder-of .ensures s H) (c .before .if4 .taken) (c .refusal4 .ensures)
 
 set-holder-requires : tie.Need-set-holder-requires
-set-holder-requires c κs = ((c .before .before .before .before .before .before .before .before .before .before .before .before .pre .state, c .before .before .before .before .before .before .before .before .before .before .before .before .pre .holds), ((between (c .before .before .before .before .before .before .before .if2 .left) (c .before .before .before .before .before .if3 .left)), runner-small (c .before .before .before .before .before .before .before .before .before .running-of .ensures (c .before .before .before .before .before .before .before .before .before .before .before .before .args .shape) (c .before .before .before .before .before .before .before .before .before .before .before .before .pre .state) (c .before .before .before .before .before .before .before .before .before .before .before .before .pre .holds)) (c .before .before .before .before .before .before .before .before .before .before .before .before .pre .valid)))
+set-holder-requires c κs = ((c .before .before .before .before .before .before .before .before .before .before .before .before .pre .state, c .before .before .before .before .before .before .before .before .before .before .before .before .pre .holds), ((is-inside _ _ (c .before .before .before .before .before .before .before .if2 .left) (c .before .before .before .before .before .if3 .left)), runner-small (c .before .before .before .before .before .before .before .before .before .running-of .ensures (c .before .before .before .before .before .before .before .before .before .before .before .before .args .shape) (c .before .before .before .before .before .before .before .before .before .before .before .before .pre .state) (c .before .before .before .before .before .before .before .before .before .before .before .before .pre .holds)) (c .before .before .before .before .before .before .before .before .before .before .before .before .pre .valid)))
 
 finish-requires : tie.Need-finish-requires
 finish-requires c κs = let t = set-holder-requires (c .before .before .before .before) κs .0 in (_, c .before .before .before .set-holder .ensures (t .0) (t .1) .holds)
@@ -57,10 +58,10 @@ same-length-5 : tie.Need-same-length-5
 same-length-5 c = search needs
 
 returns-5 : tie.Need-returns-5
-returns-5 c = λ s H v. let b = c .before .before .before .before .before .before .set-holder .ensures s H in enter-free H (c .before .before .before .before .before .before .before .before .before .before .before .before .before .before .before .before .before .before .before .args .lock) (c .before .before .before .before .before .before .before .before .before .before .before .before .before .before .before .before .running-of .ensures (c .before .before .before .before .before .before .before .before .before .before .before .before .before .before .before .before .before .before .before .args .shape) s H) (c .before .before .before .before .before .before .before .before .before .before .before .before .before .before .before .if1 .left) (between (c .before .before .before .before .before .before .before .before .before .before .before .before .before .before .if2 .left) (c .before .before .before .before .before .before .before .before .before .before .before .before .if3 .left)) (c .before .before .before .before .before .before .before .before .before .before .holder-of .ensures s H) (c .before .before .before .before .before .before .before .before .before .if4 .left) (c .before .before .before .before .before .before .before .before .if5 .taken) b (c .before .before .finish .ensures _ (b .holds))
+returns-5 c = λ s H v. let b = c .before .before .before .before .before .before .set-holder .ensures s H in enter-free H (c .before .before .before .before .before .before .before .before .before .before .before .before .before .before .before .before .before .before .before .args .lock) (c .before .before .before .before .before .before .before .before .before .before .before .before .before .before .before .before .running-of .ensures (c .before .before .before .before .before .before .before .before .before .before .before .before .before .before .before .before .before .before .before .args .shape) s H) (c .before .before .before .before .before .before .before .before .before .before .before .before .before .before .before .if1 .left) (is-inside _ _ (c .before .before .before .before .before .before .before .before .before .before .before .before .before .before .if2 .left) (c .before .before .before .before .before .before .before .before .before .before .before .before .if3 .left)) (c .before .before .before .before .before .before .before .before .before .before .holder-of .ensures s H) (c .before .before .before .before .before .before .before .before .before .if4 .left) (c .before .before .before .before .before .before .before .before .if5 .taken) b (c .before .before .finish .ensures _ (b .holds))
 
 block-requires : tie.Need-block-requires
-block-requires c κs = ((c .before .before .before .before .before .before .before .before .before .before .before .before .pre .state, c .before .before .before .before .before .before .before .before .before .before .before .before .pre .holds, runner-stands (c .before .before .before .before .before .before .before .before .before .running-of .ensures (c .before .before .before .before .before .before .before .before .before .before .before .before .args .shape) (c .before .before .before .before .before .before .before .before .before .before .before .before .pre .state) (c .before .before .before .before .before .before .before .before .before .before .before .before .pre .holds)) (c .before .before .before .before .before .before .before .before .before .before .before .before .pre .valid) (c .before .before .before .before .before .before .before .before .if1 .left)), (between (c .before .before .before .before .before .before .before .if2 .left) (c .before .before .before .before .before .if3 .left)))
+block-requires c κs = ((c .before .before .before .before .before .before .before .before .before .before .before .before .pre .state, c .before .before .before .before .before .before .before .before .before .before .before .before .pre .holds, runner-stands (c .before .before .before .before .before .before .before .before .before .running-of .ensures (c .before .before .before .before .before .before .before .before .before .before .before .before .args .shape) (c .before .before .before .before .before .before .before .before .before .before .before .before .pre .state) (c .before .before .before .before .before .before .before .before .before .before .before .before .pre .holds)) (c .before .before .before .before .before .before .before .before .before .before .before .before .pre .valid) (c .before .before .before .before .before .before .before .before .if1 .left)), (is-inside _ _ (c .before .before .before .before .before .before .before .if2 .left) (c .before .before .before .before .before .if3 .left)))
 
 finish-requires-2 : tie.Need-finish-requires-2
 finish-requires-2 c κs = let t = block-requires (c .before .before .before .before) κs .0 in (_, c .before .before .before .block .ensures (t .0) (t .1) (t .2) .holds)
@@ -69,7 +70,7 @@ same-length-6 : tie.Need-same-length-6
 same-length-6 c = search needs
 
 returns-6 : tie.Need-returns-6
-returns-6 c = λ s H v. let b = c .before .before .before .before .before .before .block .ensures s H (runner-stands (c .before .before .before .before .before .before .before .before .before .before .before .before .before .before .before .before .running-of .ensures (c .before .before .before .before .before .before .before .before .before .before .before .before .before .before .before .before .before .before .before .args .shape) s H) v (c .before .before .before .before .before .before .before .before .before .before .before .before .before .before .before .if1 .left)) in enter-taken H (c .before .before .before .before .before .before .before .before .before .before .before .before .before .before .before .before .before .before .before .args .lock) (c .before .before .before .before .before .before .before .before .before .before .before .before .before .before .before .before .running-of .ensures (c .before .before .before .before .before .before .before .before .before .before .before .before .before .before .before .before .before .before .before .args .shape) s H) (c .before .before .before .before .before .before .before .before .before .before .before .before .before .before .before .if1 .left) (between (c .before .before .before .before .before .before .before .before .before .before .before .before .before .before .if2 .left) (c .before .before .before .before .before .before .before .before .before .before .before .before .if3 .left)) (c .before .before .before .before .before .before .before .before .before .before .holder-of .ensures s H) (c .before .before .before .before .before .before .before .before .before .if4 .left) (c .before .before .before .before .before .before .before .before .if5 .left) b (c .before .before .finish2 .ensures _ (b .holds))
+returns-6 c = λ s H v. let b = c .before .before .before .before .before .before .block .ensures s H (runner-stands (c .before .before .before .before .before .before .before .before .before .before .before .before .before .before .before .before .running-of .ensures (c .before .before .before .before .before .before .before .before .before .before .before .before .before .before .before .before .before .before .before .args .shape) s H) v (c .before .before .before .before .before .before .before .before .before .before .before .before .before .before .before .if1 .left)) in enter-taken H (c .before .before .before .before .before .before .before .before .before .before .before .before .before .before .before .before .before .before .before .args .lock) (c .before .before .before .before .before .before .before .before .before .before .before .before .before .before .before .before .running-of .ensures (c .before .before .before .before .before .before .before .before .before .before .before .before .before .before .before .before .before .before .before .args .shape) s H) (c .before .before .before .before .before .before .before .before .before .before .before .before .before .before .before .if1 .left) (is-inside _ _ (c .before .before .before .before .before .before .before .before .before .before .before .before .before .before .if2 .left) (c .before .before .before .before .before .before .before .before .before .before .before .before .if3 .left)) (c .before .before .before .before .before .before .before .before .before .before .holder-of .ensures s H) (c .before .before .before .before .before .before .before .before .before .if4 .left) (c .before .before .before .before .before .before .before .before .if5 .left) b (c .before .before .finish2 .ensures _ (b .holds))
 
 pub enter-spec : {M : Type 1} → statement M
 enter-spec =

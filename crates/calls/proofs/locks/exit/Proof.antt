@@ -1,5 +1,5 @@
 -- `calls::locks::exit` meets its contract: its tests in the rule's order; the lock is released. Assumes nothing.
-use Rattle.calls.proofs.Shared.{zero-outside, above-outside, between}
+use Rattle.calls.proofs.Numbers.{above-outside, is-inside, zero-outside}
 use Rattle.calls.proofs.Locking.{exit-nobody, exit-no-lock, exit-foreign, exit-own}
 use borrow.Author.Needs.{needs}
 use Rattle.calls.proofs.locks.exit.Statement.{statement}
@@ -36,7 +36,7 @@ returns-3 : tie.Need-returns-3
 returns-3 c = λ s H v. exit-no-lock H (c .before .before .before .before .before .before .before .before .args .lock) (c .before .before .before .before .before .running-of .ensures (c .before .before .before .before .before .before .before .before .args .shape) s H) (c .before .before .before .before .if1 .left) (above-outside (c .before .if3 .taken)) (c .refusal3 .ensures)
 
 holder-of-requires : tie.Need-holder-of-requires
-holder-of-requires c κs = ((c .before .before .before .before .before .before .before .before .pre .state, c .before .before .before .before .before .before .before .before .pre .holds), (between (c .before .before .before .if2 .left) (c .before .if3 .left)))
+holder-of-requires c κs = ((c .before .before .before .before .before .before .before .before .pre .state, c .before .before .before .before .before .before .before .before .pre .holds), (is-inside _ _ (c .before .before .before .if2 .left) (c .before .if3 .left)))
 
 refusal-requires-4 : tie.Need-refusal-requires-4
 refusal-requires-4 c κs = search needs
@@ -45,7 +45,7 @@ same-length-4 : tie.Need-same-length-4
 same-length-4 c = search needs
 
 returns-4 : tie.Need-returns-4
-returns-4 c = λ s H v. exit-foreign H (c .before .before .before .before .before .before .before .before .before .before .before .args .lock) (c .before .before .before .before .before .before .before .before .running-of .ensures (c .before .before .before .before .before .before .before .before .before .before .before .args .shape) s H) (c .before .before .before .before .before .before .before .if1 .left) (between (c .before .before .before .before .before .before .if2 .left) (c .before .before .before .before .if3 .left)) (c .before .before .holder-of .ensures s H) (c .before .if4 .taken) (c .refusal4 .ensures)
+returns-4 c = λ s H v. exit-foreign H (c .before .before .before .before .before .before .before .before .before .before .before .args .lock) (c .before .before .before .before .before .before .before .before .running-of .ensures (c .before .before .before .before .before .before .before .before .before .before .before .args .shape) s H) (c .before .before .before .before .before .before .before .if1 .left) (is-inside _ _ (c .before .before .before .before .before .before .if2 .left) (c .before .before .before .before .if3 .left)) (c .before .before .holder-of .ensures s H) (c .before .if4 .taken) (c .refusal4 .ensures)
 
 release-requires : tie.Need-release-requires
 release-requires c κs = holder-of-requires (c .before .before .before) κs
@@ -57,7 +57,7 @@ same-length-5 : tie.Need-same-length-5
 same-length-5 c = search needs
 
 returns-5 : tie.Need-returns-5
-returns-5 c = λ s H v. let b = c .before .before .before .before .before .before .release .ensures s H in exit-own H (c .before .before .before .before .before .before .before .before .before .before .before .before .before .before .before .before .before .before .args .lock) (c .before .before .before .before .before .before .before .before .before .before .before .before .before .before .before .running-of .ensures (c .before .before .before .before .before .before .before .before .before .before .before .before .before .before .before .before .before .before .args .shape) s H) (c .before .before .before .before .before .before .before .before .before .before .before .before .before .before .if1 .left) (between (c .before .before .before .before .before .before .before .before .before .before .before .before .before .if2 .left) (c .before .before .before .before .before .before .before .before .before .before .before .if3 .left)) (c .before .before .before .before .before .before .before .before .before .holder-of .ensures s H) (c .before .before .before .before .before .before .before .before .if4 .left) b (c .before .before .finish .ensures _ (b .1 .holds))
+returns-5 c = λ s H v. let b = c .before .before .before .before .before .before .release .ensures s H in exit-own H (c .before .before .before .before .before .before .before .before .before .before .before .before .before .before .before .before .before .before .args .lock) (c .before .before .before .before .before .before .before .before .before .before .before .before .before .before .before .running-of .ensures (c .before .before .before .before .before .before .before .before .before .before .before .before .before .before .before .before .before .before .args .shape) s H) (c .before .before .before .before .before .before .before .before .before .before .before .before .before .before .if1 .left) (is-inside _ _ (c .before .before .before .before .before .before .before .before .before .before .before .before .before .if2 .left) (c .before .before .before .before .before .before .before .before .before .before .before .if3 .left)) (c .before .before .before .before .before .before .before .before .before .holder-of .ensures s H) (c .before .before .before .before .before .before .before .before .if4 .left) b (c .before .before .finish .ensures _ (b .1 .holds))
 
 pub exit-spec : {M : Type 1} → statement M
 exit-spec =

@@ -2,7 +2,8 @@
 use mathlib.Core.Path.{refl}
 use Rattle.model.specs.Queue.Queue.{ready, lock}
 use Rattle.area.proofs.Puts.{becomes-then}
-use Rattle.calls.proofs.Shared.{first-stands, going}
+use Rattle.calls.proofs.Shared.{going}
+use Rattle.calls.proofs.Numbers.{first-stands}
 use Rattle.calls.proofs.Locking.{release-none, release-first}
 use borrow.Author.Needs.{needs}
 use Rattle.calls.proofs.locks.release.Statement.{statement}
