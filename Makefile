@@ -1,25 +1,29 @@
-# make run:   builds the library and plays 01's example through it.
+# make run:   builds Rehearse and plays SCRIPT through it, each line beside its answer.
 # make test:  every test and proof, from nothing; its last step is the gate of the proof kit.
 # make bench: the library against plain C on the same work, as ratios.
 # make fuzz:  the tests with a fresh seed, which is printed, for SECONDS.
 
 LIB = target/staticlib/libkernel.a
 CFLAGS = -std=c11 -Wall -Wextra -O2
-TESTS = cargo run --quiet --release --manifest-path tests/Cargo.toml --features calls,list --
+TESTS = cargo run --quiet --release --manifest-path tests/Cargo.toml --features calls,list,rehearse --
 SECONDS ?= 60
+SCRIPT ?= examples/script.txt
 
-.PHONY: lib run test bench fuzz
+.PHONY: lib rehearse run test bench fuzz
 
 lib:
 	rt staticlib kernel
 
+rehearse:
+	rt check rehearse
+
 target/nine: lib examples/nine.c include/kernel.h
 	gcc $(CFLAGS) examples/nine.c $(LIB) -o $@
 
-run: target/nine
-	target/nine
+run: rehearse
+	target/bin/rehearse < $(SCRIPT) | paste $(SCRIPT) -
 
-test: target/nine
+test: target/nine rehearse
 	target/nine | diff examples/nine.txt -
 	$(TESTS)
 	rt ci
@@ -30,5 +34,5 @@ target/bench: lib bench/bench.c bench/plain.c bench/plain.h
 bench: target/bench
 	target/bench
 
-fuzz: lib
+fuzz: lib rehearse
 	$(TESTS) fuzz $(SECONDS)

@@ -45,6 +45,8 @@ fn suites() -> Vec<Suite> {
         ("calls", suites::calls::run),
         #[cfg(feature = "list")]
         ("list", suites::list::run),
+        #[cfg(feature = "rehearse")]
+        ("rehearse", suites::rehearse::run),
     ]
 }
 

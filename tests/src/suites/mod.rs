@@ -8,6 +8,8 @@ pub mod table;
 pub mod calls;
 #[cfg(feature = "list")]
 pub mod list;
+#[cfg(feature = "rehearse")]
+pub mod rehearse;
 #[cfg(feature = "start")]
 pub mod sound;
 #[cfg(feature = "start")]

@@ -1,0 +1,4 @@
+pub mod Line
+pub mod Read
+pub mod Print
+pub mod Examples

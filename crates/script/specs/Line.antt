@@ -1,0 +1,123 @@
+-- Which lines are calls, and which call each is: a line is a list of bytes, without its newline. Assumes nothing.
+use Prim.Native.Nat.{ℕ, _+_, _-_, _*_}
+use mathlib.Core.Bool.{Bool, true, false, _&&_, cond}
+use mathlib.Core.List.{List, [], _∷_, map}
+use lib.Dec.{eqb, leb}
+use lib.ListN.{length}
+use Rattle.model.specs.declared.Shape.{Shape}
+use Rattle.model.specs.declared.Call.{Call}
+use Rattle.model.specs.declared.Call.the-variants as calls
+use Rattle.script.specs.declared.read.Name.{Name}
+use Rattle.script.specs.declared.read.Name.the-variants.{Start, Enter, Exit, Wait, Notify, Broadcast, Naked, Requeue, SetPriority, Tick, Unknown}
+
+-- what a line is: one of the nine calls, Start with its shape and its bytes, or neither
+pub data Meaning : Type 0 where
+  call : Call → Meaning
+  start : Shape → List ℕ → Meaning
+  none : Meaning
+
+-- ---- words
+
+-- b at the front of the first of these words
+abbrev pub join : ℕ → List (List ℕ) → List (List ℕ)
+join b [] = (b ∷ []) ∷ []
+join b (w ∷ ws) = (b ∷ w) ∷ ws
+
+-- the words between spaces (byte 32); two spaces side by side, or one at an end, have an empty word
+abbrev pub fields : List ℕ → List (List ℕ)
+fields [] = [] ∷ []
+fields (b ∷ bs) = cond (eqb b 32) ([] ∷ fields bs) (join b (fields bs))
+
+-- the same bytes
+abbrev pub same : List ℕ → List ℕ → Bool
+same [] [] = true
+same [] (y ∷ ys) = false
+same (x ∷ xs) [] = false
+same (x ∷ xs) (y ∷ ys) = eqb x y && same xs ys
+
+-- ---- numbers
+
+-- the bytes 0 to 9
+abbrev pub digit : ℕ → Bool
+digit b = leb 48 b && leb b 57
+
+-- n with these digits behind it; 65,536, which is above each limit, where one is no digit
+abbrev pub valueFrom : ℕ → List ℕ → ℕ
+valueFrom n [] = n
+valueFrom n (b ∷ bs) = cond (digit b) (valueFrom (n * 10 + (b - 48)) bs) 65536
+
+-- the value of a row of digits; 65,536 where it is empty or not all digits
+abbrev pub number : List ℕ → ℕ
+number [] = 65536
+number (b ∷ bs) = valueFrom 0 (b ∷ bs)
+
+-- each is at most the limit
+abbrev pub within : ℕ → List ℕ → Bool
+within limit [] = true
+within limit (n ∷ ns) = leb n limit && within limit ns
+
+-- ---- names
+
+-- each name in lower case, letter by letter as bytes
+abbrev pub nameOf : List ℕ → Name
+nameOf w =
+    cond (same w (115 ∷ 116 ∷ 97 ∷ 114 ∷ 116 ∷ [])) Start
+    (cond (same w (101 ∷ 110 ∷ 116 ∷ 101 ∷ 114 ∷ [])) Enter
+    (cond (same w (101 ∷ 120 ∷ 105 ∷ 116 ∷ [])) Exit
+    (cond (same w (119 ∷ 97 ∷ 105 ∷ 116 ∷ [])) Wait
+    (cond (same w (110 ∷ 111 ∷ 116 ∷ 105 ∷ 102 ∷ 121 ∷ [])) Notify
+    (cond (same w (98 ∷ 114 ∷ 111 ∷ 97 ∷ 100 ∷ 99 ∷ 97 ∷ 115 ∷ 116 ∷ [])) Broadcast
+    (cond (same w (110 ∷ 97 ∷ 107 ∷ 101 ∷ 100 ∷ [])) Naked
+    (cond (same w (114 ∷ 101 ∷ 113 ∷ 117 ∷ 101 ∷ 117 ∷ 101 ∷ [])) Requeue
+    (cond (same w (115 ∷ 101 ∷ 116 ∷ 112 ∷ 114 ∷ 105 ∷ 111 ∷ 114 ∷ 105 ∷ 116 ∷ 121 ∷ [])) SetPriority
+    (cond (same w (116 ∷ 105 ∷ 99 ∷ 107 ∷ [])) Tick Unknown)))))))))
+
+-- ---- calls
+
+-- a call without a number, with one, with three
+abbrev pub alone : Call → List ℕ → Meaning
+alone c [] = call c
+alone c (x ∷ xs) = none
+
+abbrev pub one : (ℕ → Call) → List ℕ → Meaning
+one f [] = none
+one f (x ∷ []) = call (f x)
+one f (x ∷ y ∷ zs) = none
+
+abbrev pub three : (ℕ → ℕ → ℕ → Call) → List ℕ → Meaning
+three f [] = none
+three f (x ∷ []) = none
+three f (x ∷ y ∷ []) = none
+three f (x ∷ y ∷ z ∷ []) = call (f x y z)
+three f (x ∷ y ∷ z ∷ u ∷ us) = none
+
+-- Start: four numbers and then any number of bytes
+abbrev pub started : List ℕ → Meaning
+started [] = none
+started (p ∷ []) = none
+started (p ∷ l ∷ []) = none
+started (p ∷ l ∷ c ∷ []) = none
+started (p ∷ l ∷ c ∷ k ∷ bytes) = cond (within 255 bytes) (start (record { processes = p; locks = l; conditions = c; parks = k }) bytes) none
+
+-- what a name says with its numbers
+abbrev pub said : Name → List ℕ → Meaning
+said Start ns = started ns
+said Enter ns = one calls.Enter ns
+said Exit ns = one calls.Exit ns
+said Wait ns = three (λ l c t. calls.Wait l c (record { 0 = t })) ns
+said Notify ns = one calls.Notify ns
+said Broadcast ns = one calls.Broadcast ns
+said Naked ns = one calls.Naked ns
+said Requeue ns = three (λ s d p. calls.Requeue s d (record { 0 = p })) ns
+said SetPriority ns = one (λ v. calls.SetPriority (record { 0 = v })) ns
+said Tick ns = alone calls.Tick ns
+said Unknown ns = none
+
+-- the first word is the name, and the others are its numbers, each at most 65,535
+abbrev pub spoken : List (List ℕ) → Meaning
+spoken [] = none
+spoken (w ∷ ws) = cond (within 65535 (map number ws)) (said (nameOf w) (map number ws)) none
+
+-- a line of at most 8,192 bytes means what its words say
+abbrev pub meaning : List ℕ → Meaning
+meaning line = cond (leb (length line) 8192) (spoken (fields line)) none

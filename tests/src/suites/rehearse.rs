@@ -1,0 +1,232 @@
+//! The program Rehearse as a process: scripts of right, wrong and spoiled lines, each answer's
+//! line against the reference.
+
+use super::{Outcome, Tally};
+use crate::call::Call;
+use crate::history;
+use crate::random::Random;
+use crate::reference::{self, Shape};
+use crate::sample;
+use std::io::{BufRead, BufReader, Read, Write};
+use std::process::{Child, Command, Stdio};
+use std::thread;
+
+const PROGRAM: &str = concat!(env!("CARGO_MANIFEST_DIR"), "/../target/bin/rehearse");
+const AREA_WORDS: usize = 8_192;
+const LONGEST_LINE: usize = 8_192;
+const SHAPE: Shape = Shape {
+    processes: 3,
+    locks: 1,
+    conditions: 1,
+    parks: 0,
+};
+
+pub fn run(tally: &mut Tally, random: &mut Random) -> Outcome {
+    compare(tally, b"")?;
+    compare(tally, b"\n")?;
+    compare(tally, include_bytes!("../../../crates/rehearse/stdin"))?;
+    long_lines(tally)?;
+    for _ in 0..60 {
+        let script = script(random, 2_000);
+        compare(tally, &script)?;
+        compare(tally, &script[..script.len() - 1])?;
+    }
+    line_by_line(tally, random)
+}
+
+/// The line of a call, without its newline.
+fn line_of(call: &Call) -> Vec<u8> {
+    let numbers: Vec<u16> = match call {
+        Call::Start {
+            processes,
+            locks,
+            conditions,
+            parks,
+            priorities,
+        } => {
+            let counts = [*processes, *locks, *conditions, *parks];
+            let bytes = priorities.iter().map(|&byte| u16::from(byte));
+            counts.into_iter().chain(bytes).collect()
+        }
+        Call::Enter(number)
+        | Call::Exit(number)
+        | Call::Notify(number)
+        | Call::Broadcast(number)
+        | Call::Naked(number)
+        | Call::SetPriority(number) => vec![*number],
+        Call::Wait {
+            lock,
+            condition,
+            ticks,
+        } => vec![*lock, *condition, *ticks],
+        Call::Requeue {
+            source,
+            destination,
+            process,
+        } => vec![*source, *destination, *process],
+        Call::Tick => vec![],
+    };
+    let words = numbers.iter().map(|number| format!(" {number}"));
+    (call.name().to_string() + &words.collect::<String>()).into_bytes()
+}
+
+/// The number that a word is.
+fn number_of(word: &[u8]) -> Option<u16> {
+    let digits = word.iter().all(u8::is_ascii_digit);
+    let text = std::str::from_utf8(word).ok().filter(|_| digits)?;
+    text.parse().ok()
+}
+
+/// The call that a line is.
+fn call_of(line: &[u8]) -> Option<Call> {
+    if line.len() > LONGEST_LINE {
+        return None;
+    }
+    let mut words = line.split(|&byte| byte == b' ');
+    let name = words.next()?;
+    let numbers: Vec<u16> = words.map(number_of).collect::<Option<_>>()?;
+    match (name, &numbers[..]) {
+        (b"start", &[processes, locks, conditions, parks, ref bytes @ ..]) => {
+            let bytes = bytes.iter().map(|&number| u8::try_from(number).ok());
+            Some(Call::Start {
+                processes,
+                locks,
+                conditions,
+                parks,
+                priorities: bytes.collect::<Option<_>>()?,
+            })
+        }
+        (b"enter", &[lock]) => Some(Call::Enter(lock)),
+        (b"exit", &[lock]) => Some(Call::Exit(lock)),
+        (b"wait", &[lock, condition, ticks]) => Some(Call::Wait {
+            lock,
+            condition,
+            ticks,
+        }),
+        (b"notify", &[condition]) => Some(Call::Notify(condition)),
+        (b"broadcast", &[condition]) => Some(Call::Broadcast(condition)),
+        (b"naked", &[condition]) => Some(Call::Naked(condition)),
+        (b"requeue", &[source, destination, process]) => Some(Call::Requeue {
+            source,
+            destination,
+            process,
+        }),
+        (b"setpriority", &[priority]) => Some(Call::SetPriority(priority)),
+        (b"tick", &[]) => Some(Call::Tick),
+        _ => None,
+    }
+}
+
+/// The line that answers a line.
+fn answer_to(area: &mut [u16], line: &[u8]) -> String {
+    call_of(line).map_or("?\n".to_string(), |call| {
+        let answer = reference::perform(area, &call);
+        format!(
+            "{} {} {} {} {}\n",
+            answer.code, answer.running, answer.retry, answer.mark, answer.moved
+        )
+    })
+}
+
+/// A line with one place spoiled.
+fn spoil(random: &mut Random, line: &mut Vec<u8>) {
+    let place = random.below(line.len() + 1);
+    let byte = random.pick(b" 0159abeE-+\t\r\0\xff");
+    match random.below(4) {
+        0 => line.insert(place, byte),
+        1 => line.truncate(place),
+        2 => line.splice(place..place, *b"0000").for_each(drop),
+        _ => line
+            .splice(place..line.len().min(place + 1), [byte])
+            .for_each(drop),
+    }
+}
+
+/// Lines with a Start now and then, one in five of them spoiled.
+fn script(random: &mut Random, lines: usize) -> Vec<u8> {
+    let mut script = Vec::new();
+    let mut shape = sample::small_shape(random);
+    for number in 0..lines {
+        let call = if number % 500 == 10 {
+            shape = sample::small_shape(random);
+            history::start(random, shape)
+        } else {
+            history::any_call(random, &shape, 8)
+        };
+        let mut line = line_of(&call);
+        if random.chance(20) {
+            spoil(random, &mut line);
+        }
+        script.append(&mut line);
+        script.push(b'\n');
+    }
+    script
+}
+
+fn rehearse() -> Result<Child, String> {
+    let mut command = Command::new(PROGRAM);
+    command.stdin(Stdio::piped()).stdout(Stdio::piped());
+    command.spawn().map_err(|why| format!("{PROGRAM}: {why}"))
+}
+
+/// A whole script, from a pipe.
+fn compare(tally: &mut Tally, script: &[u8]) -> Outcome {
+    let mut area = vec![0; AREA_WORDS];
+    let whole = script.strip_suffix(b"\n").unwrap_or(script);
+    let lines = whole.split(|&byte| byte == b'\n');
+    let count = if script.is_empty() { 0 } else { usize::MAX };
+    let expected = lines.take(count).map(|line| answer_to(&mut area, line));
+    let expected: Vec<String> = expected.collect();
+
+    let mut child = rehearse()?;
+    let mut input = child.stdin.take().expect("a pipe");
+    let script = script.to_vec();
+    let writer = thread::spawn(move || input.write_all(&script));
+    let mut output = String::new();
+    let mut pipe = child.stdout.take().expect("a pipe");
+    let read = pipe.read_to_string(&mut output);
+    let written = writer.join().expect("no panic");
+    let ended = child.wait().map_err(|why| why.to_string())?;
+    tally.holds(read.is_ok() && written.is_ok() && ended.success(), || {
+        "Rehearse reads all and ends".to_string()
+    })?;
+    let found: Vec<&str> = output.split_inclusive('\n').collect();
+    for (number, (found, expected)) in found.iter().zip(&expected).enumerate() {
+        tally.same(*found, expected, || format!("answer {number}"))?;
+    }
+    tally.same(&found.len(), &expected.len(), || "answers".to_string())
+}
+
+/// Lines around the longest that is read, and far beyond it.
+fn long_lines(tally: &mut Tally) -> Outcome {
+    let mut script = line_of(&history::start(&mut Random::new(1), SHAPE));
+    script.push(b'\n');
+    for length in [LONGEST_LINE - 1, LONGEST_LINE, LONGEST_LINE + 1, 100_000] {
+        let zeros = length - "enter 1".len();
+        script.extend_from_slice(b"enter ");
+        script.extend(std::iter::repeat_n(b'0', zeros));
+        script.extend_from_slice(b"1\nexit 1\n");
+    }
+    compare(tally, &script)
+}
+
+/// Each answer comes before the next line is written, as at a terminal.
+fn line_by_line(tally: &mut Tally, random: &mut Random) -> Outcome {
+    let mut area = vec![0; AREA_WORDS];
+    let mut child = rehearse()?;
+    let mut input = child.stdin.take().expect("a pipe");
+    let mut output = BufReader::new(child.stdout.take().expect("a pipe"));
+    let script = script(random, 1_000);
+    for line in script.split_inclusive(|&byte| byte == b'\n') {
+        let mut found = String::new();
+        let done = input
+            .write_all(line)
+            .and_then(|()| output.read_line(&mut found));
+        tally.holds(done.is_ok(), || "Rehearse answers".to_string())?;
+        let expected = answer_to(&mut area, &line[..line.len() - 1]);
+        tally.same(&found, &expected, || format!("{line:?}"))?;
+    }
+    drop(input);
+    let ended = child.wait().map_err(|why| why.to_string())?;
+    tally.holds(ended.success(), || "Rehearse ends".to_string())
+}
