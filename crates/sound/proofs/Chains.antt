@@ -49,28 +49,28 @@ length-onto (y ∷ ys) js = let h = length-onto ys (y ∷ js) in omega arith
 
 -- ---- rings
 
-module _ (ws : List ℕ) (r P k o : ℕ) where
+module _ (rs : List ℕ) (P k o : ℕ) where
   -- a member of a ring of kind k, which is not the holder o
   pub record Member (p : ℕ) : Type 0 where
     pub within : inside P p ≡ true
     pub free : p ≡ o → ⊥
-    pub fits : Fits k (linkIn ws r p) (getD ws (recordAt r p + 1) 0) (getD ws (recordAt r p + 2) 0)
+    pub fits : Fits k (linkIn rs p) (getD rs (recordAt p + 1) 0) (getD rs (recordAt p + 2) 0)
 
 -- a ring with the tail t and the members ys
-pub record Ringed (ws : List ℕ) (r P k o t : ℕ) (ys : List ℕ) : Type 0 where
-  pub linked : Linked (nextIn ws r) t ys
+pub record Ringed (rs : List ℕ) (P k o t : ℕ) (ys : List ℕ) : Type 0 where
+  pub linked : Linked (nextIn rs) t ys
   pub ends : lastOf 0 ys ≡ t
-  pub members : All (Member ws r P k o) ys
-  pub falls : Falling (λ p. linkIn ws r p / 8192) ys
+  pub members : All (Member rs P k o) ys
+  pub falls : Falling (λ p. linkIn rs p / 8192) ys
 
 -- what an accepted walk has read: p, and then rest
-record Read (ws : List ℕ) (r P k o t p b : ℕ) (js js′ : List ℕ) : Type 0 where
+record Read (rs : List ℕ) (P k o t p b : ℕ) (js js′ : List ℕ) : Type 0 where
   rest : List ℕ
-  linked : Linked (nextIn ws r) p rest
+  linked : Linked (nextIn rs) p rest
   ends : lastOf p rest ≡ t
-  members : All (Member ws r P k o) (p ∷ rest)
-  low : All (λ y. linkIn ws r y / 8192 ≤ b) (p ∷ rest)
-  falls : Falling (λ y. linkIn ws r y / 8192) (p ∷ rest)
+  members : All (Member rs P k o) (p ∷ rest)
+  low : All (λ y. linkIn rs y / 8192 ≤ b) (p ∷ rest)
+  falls : Falling (λ y. linkIn rs y / 8192) (p ∷ rest)
   done : js′ ≡ onto (p ∷ rest) js
   once : Once js → Once js′
 
@@ -80,23 +80,23 @@ once-more p js e h x = elim (ℕ-discrete p x) [
   | no d ↦ let z : bit (eqb p x) ≡ 0 = rw (eqb-no p x d) in let y = h x in omega arith
 ]
 
-module _ (ws : List ℕ) (r P k o t : ℕ) where
+module _ (rs : List ℕ) (P k o t : ℕ) where
   abbrev pr : ℕ → ℕ
-  pr y = linkIn ws r y / 8192
+  pr y = linkIn rs y / 8192
 
-  walk-read : (n p b : ℕ) (js js′ : List ℕ) → walked ws r P k o t n p b js ≡ some js′ → Read ws r P k o t p b js js′
+  walk-read : (n p b : ℕ) (js js′ : List ℕ) → walked rs P k o t n p b js ≡ some js′ → Read rs P k o t p b js js′
   unfolding onto
-  walk-read zero p b js js′ w = absurd (Option·none-ne-some js′ (sym (walk-out ws r P k o t 0 p b js (omega arith)) ∙ w))
-  walk-read (suc n) p b js js′ w = go (isFresh P o p js) refl (fitsIn ws r k b p) refl (ℕ-discrete p t) (walk-read n (nextIn ws r p) (pr p) (p ∷ js) js′)
+  walk-read zero p b js js′ w = absurd (Option·none-ne-some js′ (sym (walk-out rs P k o t 0 p b js (omega arith)) ∙ w))
+  walk-read (suc n) p b js js′ w = go (isFresh P o p js) refl (fitsIn rs k b p) refl (ℕ-discrete p t) (walk-read n (nextIn rs p) (pr p) (p ∷ js) js′)
     where
-      go : (f : Bool) → isFresh P o p js ≡ f → (g : Bool) → fitsIn ws r k b p ≡ g → Dec (p ≡ t)
-          → (walked ws r P k o t n (nextIn ws r p) (pr p) (p ∷ js) ≡ some js′ → Read ws r P k o t (nextIn ws r p) (pr p) (p ∷ js) js′) → Read ws r P k o t p b js js′
-      go false ef g eg d ih = absurd (Option·none-ne-some js′ (sym (walk-stale ws r P k o t (suc n) p b js ef) ∙ w))
-      go true ef false eg d ih = absurd (Option·none-ne-some js′ (sym (walk-unfit ws r P k o t (suc n) p b js eg) ∙ w))
+      go : (f : Bool) → isFresh P o p js ≡ f → (g : Bool) → fitsIn rs k b p ≡ g → Dec (p ≡ t)
+          → (walked rs P k o t n (nextIn rs p) (pr p) (p ∷ js) ≡ some js′ → Read rs P k o t (nextIn rs p) (pr p) (p ∷ js) js′) → Read rs P k o t p b js js′
+      go false ef g eg d ih = absurd (Option·none-ne-some js′ (sym (walk-stale rs P k o t (suc n) p b js ef) ∙ w))
+      go true ef false eg d ih = absurd (Option·none-ne-some js′ (sym (walk-unfit rs P k o t (suc n) p b js eg) ∙ w))
       go true ef true eg (yes e) ih =
           let f = fresh-is P o p js ef in
-          let g = fitting-is k b (linkIn ws r p) (getD ws (recordAt r p + 1) 0) (getD ws (recordAt r p + 2) 0) eg in
-          let d = Option·some-injective js′ (p ∷ js) (sym w ∙ walk-last ws r P k o t (suc n) p b js (omega arith) ef eg e) in
+          let g = fitting-is k b (linkIn rs p) (getD rs (recordAt p + 1) 0) (getD rs (recordAt p + 2) 0) eg in
+          let d = Option·some-injective js′ (p ∷ js) (sym w ∙ walk-last rs P k o t (suc n) p b js (omega arith) ef eg e) in
           record {
             rest = [];
             linked = tt;
@@ -109,65 +109,65 @@ module _ (ws : List ℕ) (r P k o t : ℕ) where
           }
       go true ef true eg (no e) ih =
           let f = fresh-is P o p js ef in
-          let g = fitting-is k b (linkIn ws r p) (getD ws (recordAt r p + 1) 0) (getD ws (recordAt r p + 2) 0) eg in
-          let d = ih (sym (walk-on ws r P k o t (suc n) n p b js refl ef eg e) ∙ w) in
+          let g = fitting-is k b (linkIn rs p) (getD rs (recordAt p + 1) 0) (getD rs (recordAt p + 2) 0) eg in
+          let d = ih (sym (walk-on rs P k o t (suc n) n p b js refl ef eg e) ∙ w) in
           record {
-            rest = nextIn ws r p ∷ d .rest;
+            rest = nextIn rs p ∷ d .rest;
             linked = (refl, d .linked);
             ends = d .ends;
             members = (record { within = f .within; free = f .free; fits = g .1 }, d .members);
-            low = (g .0, all-map (λ y. pr y ≤ pr p) (λ y. pr y ≤ b) (nextIn ws r p ∷ d .rest) (λ y h. let a = g .0 in omega arith) (d .low));
+            low = (g .0, all-map (λ y. pr y ≤ pr p) (λ y. pr y ≤ b) (nextIn rs p ∷ d .rest) (λ y h. let a = g .0 in omega arith) (d .low));
             falls = (d .low, d .falls);
             done = d .done;
             once = λ h. d .once (once-more p js (f .new) h);
           }
 
 -- a whole ring: what is accepted
-pub record Accepted (ws : List ℕ) (r P k o t : ℕ) (js js′ : List ℕ) : Type 0 where
+pub record Accepted (rs : List ℕ) (P k o t : ℕ) (js js′ : List ℕ) : Type 0 where
   pub ys : List ℕ
-  pub ring : Ringed ws r P k o t ys
+  pub ring : Ringed rs P k o t ys
   pub done : js′ ≡ onto ys js
   pub once : Once js → Once js′
 
-pub ring-read : (ws : List ℕ) (r P k o t : ℕ) (js js′ : List ℕ) → ringed ws r P k o t js ≡ some js′ → Accepted ws r P k o t js js′
+pub ring-read : (rs : List ℕ) (P k o t : ℕ) (js js′ : List ℕ) → ringed rs P k o t js ≡ some js′ → Accepted rs P k o t js js′
 unfolding onto
-ring-read ws r P k o t js js′ w = go (ℕ-discrete t 0)
+ring-read rs P k o t js js′ w = go (ℕ-discrete t 0)
   where
-    go : Dec (t ≡ 0) → Accepted ws r P k o t js js′
-    go (yes e) = let d = Option·some-injective js′ js (sym w ∙ ring-empty ws r P k o t js e) in
+    go : Dec (t ≡ 0) → Accepted rs P k o t js js′
+    go (yes e) = let d = Option·some-injective js′ js (sym w ∙ ring-empty rs P k o t js e) in
         record { ys = []; ring = record { linked = tt; ends = sym e; members = tt; falls = tt }; done = d; once = λ h. rw d h }
     go (no n) =
-        let d = walk-read ws r P k o t (P - length js) (nextIn ws r t) 7 js js′ (sym (ring-walk ws r P k o t js n) ∙ w) in
-        record { ys = nextIn ws r t ∷ d .rest; ring = record { linked = (refl, d .linked); ends = d .ends; members = d .members; falls = d .falls }; done = d .done; once = d .once }
+        let d = walk-read rs P k o t (P - length js) (nextIn rs t) 7 js js′ (sym (ring-walk rs P k o t js n) ∙ w) in
+        record { ys = nextIn rs t ∷ d .rest; ring = record { linked = (refl, d .linked); ends = d .ends; members = d .members; falls = d .falls }; done = d .done; once = d .once }
 
 -- ---- a ring is accepted
 
 new-one : (p : ℕ) (rest js : List ℕ) → ((x : ℕ) → count x (p ∷ rest) + count x js ≤ 1) → member p js ≡ false
 new-one p rest js c = let a = c p in let b = member-count p (p ∷ rest) (member-here p rest) in member-bit p js false (omega arith)
 
-module _ (ws : List ℕ) (r P k o t : ℕ) where
-  walk-full : (rest : List ℕ) (n p b : ℕ) (js : List ℕ) → Linked (nextIn ws r) p rest → lastOf p rest ≡ t → All (Member ws r P k o) (p ∷ rest)
-      → linkIn ws r p / 8192 ≤ b → Falling (λ y. linkIn ws r y / 8192) (p ∷ rest) → ((x : ℕ) → count x (p ∷ rest) + count x js ≤ 1) → length (p ∷ rest) ≤ n
-      → walked ws r P k o t n p b js ≡ some (onto (p ∷ rest) js)
+module _ (rs : List ℕ) (P k o t : ℕ) where
+  walk-full : (rest : List ℕ) (n p b : ℕ) (js : List ℕ) → Linked (nextIn rs) p rest → lastOf p rest ≡ t → All (Member rs P k o) (p ∷ rest)
+      → linkIn rs p / 8192 ≤ b → Falling (λ y. linkIn rs y / 8192) (p ∷ rest) → ((x : ℕ) → count x (p ∷ rest) + count x js ≤ 1) → length (p ∷ rest) ≤ n
+      → walked rs P k o t n p b js ≡ some (onto (p ∷ rest) js)
   unfolding onto
   walk-full [] n p b js l e m h f c s =
-      walk-last ws r P k o t n p b js (omega arith) (is-fresh P o p js (record { within = m .0 .within; free = m .0 .free; new = new-one p [] js c }))
+      walk-last rs P k o t n p b js (omega arith) (is-fresh P o p js (record { within = m .0 .within; free = m .0 .free; new = new-one p [] js c }))
       (is-fitting k b _ _ _ h (m .0 .fits)) e
   walk-full (y ∷ rest) n p b js l e m h f c s =
       let once : Once (p ∷ y ∷ rest) = λ x. let a = c x in omega arith in
-      walk-on ws r P k o t n (n - 1) p b js (omega arith) (is-fresh P o p js (record { within = m .0 .within; free = m .0 .free; new = new-one p (y ∷ rest) js c }))
+      walk-on rs P k o t n (n - 1) p b js (omega arith) (is-fresh P o p js (record { within = m .0 .within; free = m .0 .free; new = new-one p (y ∷ rest) js c }))
       (is-fitting k b _ _ _ h (m .0 .fits)) (λ d. once-apart p (y ∷ rest) once (lastOf y rest) (last-member y rest) (d ∙ sym e))
-      ∙ rw (l .0) (walk-full rest (n - 1) y (linkIn ws r p / 8192) (p ∷ js) (l .1) e (m .1) (f .0 .0) (f .1) (λ x. let a = c x in omega arith) (omega arith))
+      ∙ rw (l .0) (walk-full rest (n - 1) y (linkIn rs p / 8192) (p ∷ js) (l .1) e (m .1) (f .0 .0) (f .1) (λ x. let a = c x in omega arith) (omega arith))
 
-  pub ring-full : Words ws → (ys js : List ℕ) → Ringed ws r P k o t ys → ((x : ℕ) → count x ys + count x js ≤ bit (inside P x)) → ringed ws r P k o t js ≡ some (onto ys js)
+  pub ring-full : Words rs → (ys js : List ℕ) → Ringed rs P k o t ys → ((x : ℕ) → count x ys + count x js ≤ bit (inside P x)) → ringed rs P k o t js ≡ some (onto ys js)
   unfolding onto
-  ring-full small [] js R c = ring-empty ws r P k o t js (sym (R .ends))
+  ring-full small [] js R c = ring-empty rs P k o t js (sym (R .ends))
   ring-full small (y ∷ ys) js R c =
-      let in-tail = all-member (Member ws r P k o) (y ∷ ys) (R .members) (lastOf y ys) (last-member y ys) in
+      let in-tail = all-member (Member rs P k o) (y ∷ ys) (R .members) (lastOf y ys) (last-member y ys) in
       let one = inside-bounds P (lastOf y ys) (in-tail .within) in
       let end = R .ends in
       let few = at-most P (onto (y ∷ ys) js) (λ x. rw (count-onto x (y ∷ ys) js) (c x)) in
       let long = length-onto (y ∷ ys) js in
-      let w = small (recordAt r y) in
-      ring-walk ws r P k o t js (λ z. omega arith)
+      let w = small (recordAt y) in
+      ring-walk rs P k o t js (λ z. omega arith)
       ∙ rw (R .linked .0) (walk-full ys (P - length js) y 7 js (R .linked .1) end (R .members) (omega arith) (R .falls) (λ x. let a = c x in let b = bit-small (inside P x) in omega arith) (omega arith))

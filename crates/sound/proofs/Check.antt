@@ -10,14 +10,14 @@ use lib.ListN.{length, getD}
 use borrow.Author.Tests.{eq-eqb, eqb-true}
 use Rattle.model.specs.Queue.{Queue, inside, bit, exists, member, count, All}
 use Rattle.model.proofs.Lists.{absent-count}
-use Rattle.area.specs.Layout.{recordsAt}
 use Rattle.area.specs.Reading.{shapeOf}
+use Rattle.area.specs.Rings.{records}
 use Rattle.area.specs.Sound.{Sound}
 use Rattle.area.proofs.States.{Words}
-use Rattle.sound.specs.Walk.{kindOf, holderWord, visits, then, queuesOf, Met, Told}
+use Rattle.sound.specs.Walk.{then, Met, Told}
 use Rattle.sound.specs.Parts.{Decides, Counted, Runs}
 use Rattle.sound.proofs.Marks.{clear, table-clear}
-use Rattle.sound.proofs.Queues.{visits-append}
+use Rattle.sound.proofs.Queues.{kindOf, holderWord, visits, queuesOf, visits-append}
 use Rattle.sound.proofs.Chains.{Member, all-member}
 use Rattle.sound.proofs.Lists.{every, every-in, in-every, in-all, all-in, full-length, length-full}
 use Rattle.sound.proofs.Visits.{reading, total, Visited, AllVisited, visits-read, visits-full}
@@ -60,7 +60,7 @@ total-inside ws x (q ∷ qs) v i = let a = go (member x (reading ws q)) refl in 
     go : (b : Bool) → member x (reading ws q) ≡ b → count x (reading ws q) ≡ 0
     go false m = absent-count x (reading ws q) m
     go true m =
-        let k = all-member (Member ws (recordsAt (shapeOf ws)) (getD ws 0 0) (kindOf q) (holderWord ws q / 8)) (reading ws q) (v .0 .ring .members) x m in
+        let k = all-member (Member (records (shapeOf ws) ws) (getD ws 0 0) (kindOf q) (holderWord ws q / 8)) (reading ws q) (v .0 .ring .members) x m in
         absurd (true≢false (sym (k .within) ∙ i))
 
 module _ (ws : List ℕ) (small : Words ws) where
@@ -70,7 +70,7 @@ module _ (ws : List ℕ) (small : Words ws) where
   abbrev all : List Queue
   all = every (shapeOf ws)
 
-  accepted : Counted ws → Runs ws (recordsAt (shapeOf ws)) P → (js : List ℕ) → visits ws all [] ≡ some js → length js ≡ P → Sound ws
+  accepted : Counted ws → Runs ws (records (shapeOf ws) ws) P → (js : List ℕ) → visits ws all [] ≡ some js → length js ≡ P → Sound ws
   accepted c u js w l =
       let a = visits-read ws all [] js (all-in (λ q. exists (shapeOf ws) q ≡ true) all (in-every (shapeOf ws))) (c .processes) (λ x. omega arith) w in
       let f : (x : ℕ) → count x js ≡ bit (inside P x) = length-full P js (λ x. bound a x (inside P x) refl) l in
@@ -104,7 +104,7 @@ module _ (ws : List ℕ) (small : Words ws) where
   pub uncounted : (Counted ws → ⊥) → Sound ws → ⊥
   uncounted h S = h (sound-whole ws small S .counts)
 
-  pub unready : (Runs ws (recordsAt (shapeOf ws)) P → ⊥) → Sound ws → ⊥
+  pub unready : (Runs ws (records (shapeOf ws) ws) P → ⊥) → Sound ws → ⊥
   unready h S = h (sound-whole ws small S .runs)
 
   -- ---- the passes
@@ -142,7 +142,7 @@ module _ (ws : List ℕ) (small : Words ws) where
         after₂ : visits ws all [] ≡ visits ws conditions (l₂ .js)
         after₂ = after₁ ∙ rw (l₂ .is)
 
-        pub finished : Runs ws (recordsAt (shapeOf ws)) P → (eqb c₃ P ≡ true → Sound ws) × (Sound ws → eqb c₃ P ≡ true)
+        pub finished : Runs ws (records (shapeOf ws) ws) P → (eqb c₃ P ≡ true → Sound ws) × (Sound ws → eqb c₃ P ≡ true)
         finished u = go (visits ws conditions (l₂ .js)) after₂ (t₃ (l₂ .js) (l₂ .met))
           where
             go : (out : Option (List ℕ)) → visits ws all [] ≡ out → Told P c₃ ms₃ out → (eqb c₃ P ≡ true → Sound ws) × (Sound ws → eqb c₃ P ≡ true)

@@ -14,9 +14,7 @@ use Rattle.model.specs.Queue.Queue.{ready, park, lock, condition}
 use Rattle.model.proofs.Tests.{stops, same-case, same-yes, eqb-yes, eqb-no, inside-bounds, bounds-inside, bit-small}
 use Rattle.model.proofs.Lists.{at-most, count-remove-other, length-remove}
 use Rattle.area.proofs.Rings.{In, in-left, in-right}
-use Rattle.sound.specs.Walk.{kindOf, queueAt, queuesOf}
-use Rattle.sound.specs.Parts.{numberOf}
-use Rattle.sound.proofs.Queues.{kind-at}
+use Rattle.sound.proofs.Queues.{kindOf, queueAt, queuesOf, numberOf, kind-at}
 
 -- ---- a queue in a list
 

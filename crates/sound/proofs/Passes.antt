@@ -17,21 +17,23 @@ use Rattle.model.proofs.Tests.{eqb-yes, eqb-no, inside-bounds}
 use Rattle.model.proofs.Lists.{member-here}
 use Rattle.model.proofs.Places.{stands-at, waiting-is}
 use Rattle.ring.specs.Ring.{lastOf, Linked}
-use Rattle.area.specs.Layout.{at, recordsAt}
+use Rattle.area.specs.Layout.{at}
 use Rattle.area.specs.Layout.Part.{kept, tail, next, waiting}
-use Rattle.area.specs.Layout.Slot.{Parks, Running, Tail, Holder, Link, Flags}
+use Rattle.area.specs.Layout.Slot.{Parks, Running, Tail, Holder, Link, Flags, Timer}
 use Rattle.area.specs.State.{last}
 use Rattle.area.specs.Reading.{shapeOf, partsOf, readFrom, stateOf}
+use Rattle.area.specs.Rings.{records}
 use Rattle.area.specs.Sound.{Sound}
 use Rattle.area.proofs.Whole.{Counts, counts-in}
 use Rattle.area.proofs.Rings.{last-member, ring-ext, member-inside}
 use Rattle.area.proofs.States.{Words, chain-read}
-use Rattle.sound.specs.Walk.{recordAt, linkIn, nextIn, kindOf, tailWord, holderWord}
+use Rattle.sound.specs.Walk.{recordAt, linkIn, nextIn}
 use Rattle.sound.specs.Parts.{Counted, Runs}
+use Rattle.sound.proofs.Queues.{kindOf, tailWord, holderWord}
 use Rattle.sound.proofs.Tests.{Fits, Headed}
 use Rattle.sound.proofs.Chains.{Member, member-all}
 use Rattle.sound.proofs.Lists.{hits, every, every-once}
-use Rattle.sound.proofs.Visits.{reading, total, Visited, tail-part, next-part, total-hits}
+use Rattle.sound.proofs.Visits.{reading, total, Visited, link-word, flags-word, timer-word, tail-part, next-part, total-hits}
 use Rattle.sound.proofs.Whole.{Whole, falling-ext}
 
 module _ (ws : List ℕ) (small : Words ws) (S : Sound ws) where
@@ -41,8 +43,18 @@ module _ (ws : List ℕ) (small : Words ws) (S : Sound ws) where
   abbrev P : ℕ
   P = getD ws 0 0
 
-  abbrev r : ℕ
-  r = recordsAt (shapeOf ws)
+  abbrev rs : List ℕ
+  rs = records (shapeOf ws) ws
+
+  -- the words of a record
+  abbrev link : ℕ → ℕ
+  link x = getD ws (at n (Link x)) 0
+
+  abbrev flags : ℕ → ℕ
+  flags x = getD ws (at n (Flags x)) 0
+
+  abbrev timer : ℕ → ℕ
+  timer x = getD ws (at n (Timer x)) 0
 
   counts : Counts n
   counts = counts-in n (S .valid .placed .counts)
@@ -107,10 +119,10 @@ module _ (ws : List ℕ) (small : Words ws) (S : Sound ws) where
   is-inside : (x : ℕ) (q : Queue) → member x (reading ws q) ≡ true → inside P x ≡ true
   is-inside x q m = member-inside n (stateOf ws) (S .valid .placed) x q m
 
-  linked : (q : Queue) → exists n q ≡ true → Linked (nextIn ws r) (tailWord ws q / 8) (reading ws q)
+  linked : (q : Queue) → exists n q ≡ true → Linked (nextIn rs) (tailWord ws q / 8) (reading ws q)
   linked q h =
-      subst (λ (t : ℕ). Linked (nextIn ws r) t (reading ws q)) (ends q h)
-      (ring-ext nx (nextIn ws r) (reading ws q) (λ x m. next-part ws x (is-inside x q m))
+      subst (λ (t : ℕ). Linked (nextIn rs) t (reading ws q)) (ends q h)
+      (ring-ext nx (nextIn rs) (reading ws q) (λ x m. next-part ws x (is-inside x q m))
       (subst (λ (t : ℕ). Linked nx t (reading ws q)) (sym (S .closed q)) (go (eqb (partsOf n ws (tail q)) 0))))
     where
       nx : ℕ → ℕ
@@ -127,31 +139,31 @@ module _ (ws : List ℕ) (small : Words ws) (S : Sound ws) where
       let s = stands-at P (reading ws) (p .place) (p .once) x q m in
       waiting-is n (reading ws) (p .place) (p .once) x (p .real x) ∙ rw (s .0, s .1)
 
-  flag : (x : ℕ) (q : Queue) → member x (reading ws q) ≡ true → getD ws (recordAt r x + 1) 0 / 2 % 2 ≡ bit (isCondition q)
-  flag x q m = let e : getD ws (recordAt r x + 1) 0 / 2 % 2 ≡ bit (machine.waiting n (reading ws) x) = rw (is-inside x q m) at (S .waits x) in e ∙ ap bit (waits-is x q m)
+  flag : (x : ℕ) (q : Queue) → member x (reading ws q) ≡ true → flags x / 2 % 2 ≡ bit (isCondition q)
+  flag x q m = let e : flags x / 2 % 2 ≡ bit (machine.waiting n (reading ws) x) = rw (is-inside x q m) at (S .waits x) in e ∙ ap bit (waits-is x q m)
 
-  idle : (x : ℕ) (q : Queue) → member x (reading ws q) ≡ true → isCondition q ≡ false → (getD ws (recordAt r x + 1) 0 ≡ 0) × (getD ws (recordAt r x + 2) 0 ≡ 0) × (linkIn ws r x % 4 ≡ 0)
+  idle : (x : ℕ) (q : Queue) → member x (reading ws q) ≡ true → isCondition q ≡ false → (flags x ≡ 0) × (timer x ≡ 0) × (link x % 4 ≡ 0)
   idle x q m e =
       let i = is-inside x q m in
       let f = S .tidy (Flags x) i in let l = S .tidy (Link x) i in
-      let b : getD ws (recordAt r x + 1) 0 / 2 % 2 ≡ 0 = flag x q m ∙ rw e in
-      let t : getD ws (recordAt r x + 2) 0 / 1 % 65536 ≡ 0 = rw i at (S .valid .timers x (waits-is x q m ∙ e)) in
-      let s = small (recordAt r x + 2) in
+      let b : flags x / 2 % 2 ≡ 0 = flag x q m ∙ rw e in
+      let t : timer x / 1 % 65536 ≡ 0 = rw i at (S .valid .timers x (waits-is x q m ∙ e)) in
+      let s = small (at n (Timer x)) in
       (omega arith, omega arith, l .1)
 
-  fits : (x : ℕ) (q : Queue) → member x (reading ws q) ≡ true → Fits (kindOf q) (linkIn ws r x) (getD ws (recordAt r x + 1) 0) (getD ws (recordAt r x + 2) 0)
+  fits : (x : ℕ) (q : Queue) → member x (reading ws q) ≡ true → Fits (kindOf q) (link x) (flags x) (timer x)
   fits x ready m = record { waits = λ z. absurd (omega arith); idle = λ z. idle x ready m refl; blocked = λ z. absurd (omega arith) }
   fits x (park k) m = record { waits = λ z. absurd (omega arith); idle = λ z. idle x (park k) m refl; blocked = λ z. absurd (omega arith) }
   fits x (lock l) m =
       let i = is-inside x (lock l) m in
-      let b : linkIn ws r x / 4 % 2 ≡ 1 = rw i at (S .valid .blocked l x m) in
+      let b : link x / 4 % 2 ≡ 1 = rw i at (S .valid .blocked l x m) in
       let t = S .tidy (Link x) i in
       record { waits = λ z. absurd (omega arith); idle = λ z. idle x (lock l) m refl; blocked = λ z. omega arith }
   fits x (condition c) m =
       let i = is-inside x (condition c) m in
-      let b : linkIn ws r x / 4 % 2 ≡ 0 = rw i at (S .valid .asleep c x m) in
+      let b : link x / 4 % 2 ≡ 0 = rw i at (S .valid .asleep c x m) in
       let t = S .tidy (Link x) i in let f = S .tidy (Flags x) i in
-      let g : getD ws (recordAt r x + 1) 0 / 2 % 2 ≡ 1 = flag x (condition c) m in
+      let g : flags x / 2 % 2 ≡ 1 = flag x (condition c) m in
       record { waits = λ z. (omega arith, omega arith); idle = λ z. absurd (z refl); blocked = λ z. absurd (omega arith) }
 
   not-zero : (x : ℕ) (q : Queue) → member x (reading ws q) ≡ true → x ≡ 0 → ⊥
@@ -172,20 +184,20 @@ module _ (ws : List ℕ) (small : Words ws) (S : Sound ws) where
     ring = record {
       linked = linked q h;
       ends = ends q h;
-      members = member-all (Member ws r P (kindOf q) (holderWord ws q / 8)) (reading ws q) (λ x m. record { within = is-inside x q m; free = free x q h m; fits = fits x q m });
-      falls = falling-ext (priorities (stateOf ws .fields)) (λ x. linkIn ws r x / 8192) (reading ws q) level (S .valid .placed .falls q);
+      members = member-all (Member rs P (kindOf q) (holderWord ws q / 8)) (reading ws q) (λ x m. record { within = is-inside x q m; free = free x q h m; fits = rw (link-word ws x, flags-word ws x, timer-word ws x) (fits x q m) });
+      falls = falling-ext (priorities (stateOf ws .fields)) (λ x. linkIn rs x / 8192) (reading ws q) level (S .valid .placed .falls q);
     };
   }
     where
-      level : (x : ℕ) → member x (reading ws q) ≡ true → partsOf n ws (kept (priority x)) ≡ linkIn ws r x / 8192
-      level x m = let s = small (recordAt r x) in rw (is-inside x q m) (omega arith)
+      level : (x : ℕ) → member x (reading ws q) ≡ true → partsOf n ws (kept (priority x)) ≡ linkIn rs x / 8192
+      level x m = let s = small (at n (Link x)) in rw (is-inside x q m, link-word ws x) (omega arith)
 
   -- ---- running
 
-  runs : Runs ws r P
+  runs : Runs ws rs P
   runs = go (reading ws ready) (linked ready refl) (ends ready refl) (λ x m. is-inside x ready m) (S .valid .runs)
     where
-      go : (ys : List ℕ) → Linked (nextIn ws r) (getD ws 5 0 / 8) ys → lastOf 0 ys ≡ getD ws 5 0 / 8 → ((x : ℕ) → member x ys ≡ true → inside P x ≡ true) → getD ws 4 0 / 8 % 1024 ≡ first ys → Runs ws r P
+      go : (ys : List ℕ) → Linked (nextIn rs) (getD ws 5 0 / 8) ys → lastOf 0 ys ≡ getD ws 5 0 / 8 → ((x : ℕ) → member x ys ≡ true → inside P x ≡ true) → getD ws 4 0 / 8 % 1024 ≡ first ys → Runs ws rs P
       go [] l e m f =
           let t = S .tidy Running refl in let a = t .range in let b = t .low in let c = counts .processes in
           record { nobody = λ z. omega arith; tail = tail-small ready refl; somebody = λ z. absurd (z (sym e)) }
@@ -195,7 +207,7 @@ module _ (ws : List ℕ) (small : Words ws) (S : Sound ws) where
           let u = inside-bounds P y i in
           let last-in = inside-bounds P (lastOf y ys) (m (lastOf y ys) (last-member y ys)) in
           let o = l .0 in
-          let still : linkIn ws r y / 4 % 2 ≡ 0 = rw (f, i) at (S .valid .steady) in
+          let still : linkIn rs y / 4 % 2 ≡ 0 = rw (link-word ws y) (rw (f, i) at (S .valid .steady)) in
           record {
             nobody = λ z. absurd (omega arith);
             tail = tail-small ready refl;

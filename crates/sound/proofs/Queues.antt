@@ -1,120 +1,127 @@
--- The queues of a kind, one after the other: where their words stand, and how a pass over them goes on or breaks off. Assumes nothing.
+-- The queues of a kind, one after the other: how a pass over their words goes on or breaks off, and that it visits the queues of the area. Assumes nothing.
 use Prim.Native.Nat.{ℕ, zero, suc, _+_, _-_, _*_, _/_, _≤_, _<_}
 use native.Mathlib.Numerals.{add-one}
 use native.Mathlib.Decide.{ℕ-discrete}
 use native.Mathlib.Omega.{arith}
-use mathlib.Core.Path.{_≡_, refl, sym, _∙_, ap}
+use borrow.Rule.Slice.PartMut.{midOf}
+use mathlib.Core.Path.{_≡_, refl, sym, _∙_, ap, subst}
 use mathlib.Core.Bool.{Bool, true, false, not, cond}
 use mathlib.Core.List.{List, [], _∷_, _++_}
 use mathlib.Core.Option.{Option, none, some}
 use lib.Dec.{leb}
-use lib.ListN.{length, getD}
+use lib.ListN.{length, getD, drop, length-drop}
+use lib.Seq.{getD-drop}
 use borrow.Author.Tests.{leb-true, not-true, not-false}
 use Rattle.model.specs.declared.Shape.{Shape}
 use Rattle.model.specs.Queue.{Queue}
+use Rattle.model.specs.Queue.Queue.{ready, park, lock, condition}
 use Rattle.model.proofs.Tests.{and-split}
-use Rattle.area.specs.Layout.{at, locksAt, recordsAt}
+use Rattle.area.specs.Layout.{at, locksAt, conditionsAt, recordsAt}
 use Rattle.area.specs.Layout.Slot.{Tail, Holder}
 use Rattle.area.specs.Reading.{shapeOf}
+use Rattle.area.specs.Rings.{records}
+use Rattle.area.proofs.Records.{part-lent}
 use Rattle.area.proofs.States.{Words}
-use Rattle.sound.specs.Walk.{heading, ringed, kindOf, tailWord, holderWord, visit, visits, then, queueAt, queuesOf, headAt, Met, Told}
-use Rattle.sound.specs.Parts.{Counted, Laid, begins, numberOf}
+use Rattle.sound.specs.Walk.{ringed, heading, headAt, holderIn, queued, then, passed, Met, Told}
+use Rattle.sound.specs.Parts.{Decides, Counted, Runs}
 use Rattle.sound.proofs.Walks.{told-none, told-some}
 
--- ---- where the words of a queue stand
-
-pub kind-at : (k i : ℕ) → k ≤ 2 → kindOf (queueAt k i) ≡ k
-kind-at zero zero h = refl
-kind-at zero (suc i) h = refl
-kind-at (suc zero) i h = refl
-kind-at (suc (suc zero)) i h = refl
-kind-at (suc (suc (suc k))) i h = absurd (omega arith)
-
-tail-at : (n : Shape) (k i : ℕ) → k ≤ 2 → headAt (begins n k) k i ≡ at n (Tail (queueAt k i))
-unfolding headAt
-tail-at n zero zero h = omega arith
-tail-at n zero (suc i) h = omega arith
-tail-at n (suc zero) i h = omega arith
-tail-at n (suc (suc zero)) i h = omega arith
-tail-at n (suc (suc (suc k))) i h = absurd (omega arith)
-
-holder-at : (ws : List ℕ) (k i v : ℕ) → k ≤ 2 → (k ≡ 1 → v ≡ getD ws (headAt (begins (shapeOf ws) k) k i + 1) 0) → ((k ≡ 1 → ⊥) → v ≡ 0) → v ≡ holderWord ws (queueAt k i)
-unfolding headAt
-holder-at ws zero zero v h a b = b (λ e. omega arith)
-holder-at ws zero (suc i) v h a b = b (λ e. omega arith)
-holder-at ws (suc zero) i v h a b = a refl ∙ ap (λ (j : ℕ). getD ws j 0) (place ws i)
-  where
-    place : (ws : List ℕ) (i : ℕ) → locksAt (shapeOf ws) + i * 2 + 1 ≡ at (shapeOf ws) (Holder (suc i))
-    place ws i = omega arith
-holder-at ws (suc (suc zero)) i v h a b = b (λ e. omega arith)
-holder-at ws (suc (suc (suc k))) i v h a b = absurd (omega arith)
-
--- the words that a pass reads are the area's
-module _ (ws : List ℕ) (c : Counted ws) (l : getD ws 1 0 / 256 ≤ 255) where
-  begins-small : (k : ℕ) → begins (shapeOf ws) k < 1024
-  begins-small zero = omega arith
-  begins-small (suc zero) = omega arith
-  begins-small (suc (suc k)) = omega arith
-
-  number-small : (k : ℕ) → numberOf (shapeOf ws) k < 1024
-  number-small zero = omega arith
-  number-small (suc zero) = omega arith
-  number-small (suc (suc k)) = omega arith
-
-  heads-within : (k i : ℕ) → k ≤ 2 → i < numberOf (shapeOf ws) k → headAt (begins (shapeOf ws) k) k i + 1 < length ws
-  unfolding headAt
-  heads-within zero i h b = omega arith
-  heads-within (suc zero) i h b = omega arith
-  heads-within (suc (suc zero)) i h b = omega arith
-  heads-within (suc (suc (suc k))) i h b = absurd (omega arith)
-
--- the numbers of a kind are those of the area
-pub laid-of : {ws : List ℕ} → Counted ws → Words ws → (k : ℕ) → k ≤ 2 → Laid ws (recordsAt (shapeOf ws)) (getD ws 0 0) k (begins (shapeOf ws) k) (numberOf (shapeOf ws) k)
-laid-of c small k h = record { counted = c; locks = let s = small 1 in omega arith; records = refl; processes = refl; kind = h; base = refl; number = refl }
-
-module _ {ws : List ℕ} {r P k b m : ℕ} (L : Laid ws r P k b m) where
-  pub laid-small : (b < 1024) × (m < 1024)
-  laid-small =
-      let x = begins-small ws (L .counted) (L .locks) k in
-      let y = number-small ws (L .counted) (L .locks) k in
-      let e = L .base in let d = L .number in
-      (omega arith, omega arith)
-
-  pub laid-records : (P < 1024) × (r + 3 * P ≤ length ws)
-  laid-records =
-      let a = L .counted .processes in let b = L .counted .long in let e = L .records in let d = L .processes in
-      (omega arith, omega arith)
-
-  pub laid-within : (i at : ℕ) → i < m → at ≡ headAt b k i → at + 1 < length ws
-  laid-within i a h e = rw (e, L .base) (heads-within ws (L .counted) (L .locks) k i (L .kind) (rw (L .number) at h))
-
--- ---- one queue
+-- ---- a pass underway
 
 pub heading-tail : (P k w v : ℕ) → heading P k w v ≡ true → w / 8 ≤ P
 unfolding heading
 heading-tail P k w v e = leb-true (w / 8) P (and-split (leb (w / 8) P) _ e .0)
 
-visit-is : (ws : List ℕ) (k i : ℕ) (js : List ℕ) → k ≤ 2 → (w v : ℕ) → w ≡ tailWord ws (queueAt k i) → v ≡ holderWord ws (queueAt k i)
-    → visit ws (queueAt k i) js ≡ cond (heading (shapeOf ws .processes) k w v) (ringed ws (recordsAt (shapeOf ws)) (shapeOf ws .processes) k (v / 8) (w / 8) js) none
-unfolding visit
-visit-is ws k i js h w v e d = rw (e, d, kind-at k i h)
+-- the first i queues are passed, of those that js₀ leaves
+pub record Passed (hs rs : List ℕ) (P k i : ℕ) (ms : List ℕ) (m : ℕ) (js₀ : List ℕ) : Type 0 where
+  pub js : List ℕ
+  pub met : Met P ms js m
+  pub so : passed hs rs P k i js₀ ≡ some js
 
-module _ {ws : List ℕ} {r P k b m : ℕ} (L : Laid ws r P k b m) (i at w v : ℕ) (e : at ≡ headAt b k i) (d : w ≡ getD ws at 0)
-    (f : (k ≡ 1 → v ≡ getD ws (at + 1) 0) × ((k ≡ 1 → ⊥) → v ≡ 0)) (js : List ℕ) where
-  visit-here : visit ws (queueAt k i) js ≡ cond (heading P k w v) (ringed ws r P k (v / 8) (w / 8) js) none
-  visit-here =
-      let here : at ≡ headAt (begins (shapeOf ws) k) k i = rw (L .base) at e in
-      rw (L .processes, L .records)
-      (visit-is ws k i js (L .kind) w v (d ∙ ap (λ (j : ℕ). getD ws j 0) (here ∙ tail-at (shapeOf ws) k i (L .kind)))
-      (holder-at ws k i v (L .kind) (rw here at (f .0)) (f .1)))
+module _ (hs rs : List ℕ) (P k : ℕ) where
+  pub passed-none : (ms : List ℕ) (m : ℕ) (js : List ℕ) → Met P ms js m → Passed hs rs P k 0 ms m js
+  unfolding passed
+  passed-none ms m js t = record { js = js; met = t; so = refl }
 
-  visit-no : heading P k w v ≡ false → visit ws (queueAt k i) js ≡ none
-  visit-no x = visit-here ∙ rw x
+  pub passed-all : (i n : ℕ) (ms : List ℕ) (m : ℕ) (js : List ℕ) → Passed hs rs P k i ms m js → i ≤ n → n ≤ i → Told P m ms (passed hs rs P k n js)
+  passed-all i n ms m js p a b =
+      let e : i ≡ n = omega arith in
+      told-some P m ms (p .js) _ (rw e at (p .so)) (p .met)
 
-  visit-yes : heading P k w v ≡ true → visit ws (queueAt k i) js ≡ ringed ws r P k (v / 8) (w / 8) js
-  visit-yes x = visit-here ∙ rw x
+  -- one queue more, and none after one that breaks off
+  passed-more : (i : ℕ) (js is : List ℕ) → passed hs rs P k i js ≡ some is → passed hs rs P k (i + 1) js ≡ queued hs rs P k (headAt k i) is
+  unfolding passed
+  passed-more i js is e = rw (add-one, e)
 
--- ---- several queues
+  passed-stops : (i n : ℕ) (js : List ℕ) → i ≤ n → passed hs rs P k i js ≡ none → passed hs rs P k n js ≡ none
+  unfolding passed
+  passed-stops i zero js l e = let z : i ≡ 0 = omega arith in rw z at e
+  passed-stops i (suc n) js l e = elim (ℕ-discrete i (suc n)) [
+    | yes d ↦ rw d at e
+    | no d ↦ rw (passed-stops i n js (omega arith) e)
+  ]
+
+  queued-is : (a w v : ℕ) (js : List ℕ) → w ≡ getD hs a 0 → v ≡ holderIn hs k a → queued hs rs P k a js ≡ cond (heading P k w v) (ringed rs P k (v / 8) (w / 8) js) none
+  unfolding queued
+  queued-is a w v js e d = rw (e, d)
+
+  module _ (i a w v : ℕ) (e : a ≡ headAt k i) (d : w ≡ getD hs a 0) (f : v ≡ holderIn hs k a) (n : ℕ) (below : i < n)
+      (ms : List ℕ) (m : ℕ) (js₀ : List ℕ) (p : Passed hs rs P k i ms m js₀) (ok : Bool) (is-ok : ok ≡ heading P k w v) where
+    here : passed hs rs P k (i + 1) js₀ ≡ cond (heading P k w v) (ringed rs P k (v / 8) (w / 8) (p .js)) none
+    here = passed-more i js₀ (p .js) (p .so) ∙ rw (← e) (queued-is a w v (p .js) d f)
+
+    pub passed-odd : (ms′ : List ℕ) → not ok ≡ true → Told P 1024 ms′ (passed hs rs P k n js₀)
+    passed-odd ms′ x =
+        let no : heading P k w v ≡ false = sym is-ok ∙ not-true ok x in
+        told-none P ms′ _ (passed-stops (i + 1) n js₀ (omega arith) (here ∙ rw no))
+
+    module _ (x : not ok ≡ false) (c : ℕ) (ms′ : List ℕ) (told : (js : List ℕ) → Met P ms js m → Told P c ms′ (ringed rs P k (v / 8) (w / 8) js)) where
+      after : passed hs rs P k (i + 1) js₀ ≡ ringed rs P k (v / 8) (w / 8) (p .js)
+      after = let yes : heading P k w v ≡ true = sym is-ok ∙ not-false ok x in here ∙ rw yes
+
+      pub passed-broken : (ms″ : List ℕ) → P < 1024 → c ≡ 1024 → Told P 1024 ms″ (passed hs rs P k n js₀)
+      passed-broken ms″ s z = go (ringed rs P k (v / 8) (w / 8) (p .js)) after (told (p .js) (p .met))
+        where
+          go : (out : Option (List ℕ)) → passed hs rs P k (i + 1) js₀ ≡ out → Told P c ms′ out → Told P 1024 ms″ (passed hs rs P k n js₀)
+          go none q t = told-none P ms″ _ (passed-stops (i + 1) n js₀ (omega arith) q)
+          go (some js) q t = absurd (omega arith)
+
+      pub passed-on : (c ≡ 1024 → ⊥) → Passed hs rs P k (i + 1) ms′ c js₀
+      passed-on z = go (ringed rs P k (v / 8) (w / 8) (p .js)) after (told (p .js) (p .met))
+        where
+          go : (out : Option (List ℕ)) → passed hs rs P k (i + 1) js₀ ≡ out → Told P c ms′ out → Passed hs rs P k (i + 1) ms′ c js₀
+          go none q t = absurd (z t)
+          go (some js) q t = record { js = js; met = t; so = q }
+
+-- ---- the queues of an area
+
+-- the kind of a queue: 0 ready and the parks, 1 the locks, 2 the conditions
+abbrev pub kindOf : Queue → ℕ
+kindOf ready = 0
+kindOf (park k) = 0
+kindOf (lock l) = 1
+kindOf (condition c) = 2
+
+-- the word with a queue's tail, and the one with its holder, 0 where it has none
+abbrev pub tailWord : List ℕ → Queue → ℕ
+tailWord ws q = getD ws (at (shapeOf ws) (Tail q)) 0
+
+abbrev pub holderWord : List ℕ → Queue → ℕ
+holderWord ws ready = 0
+holderWord ws (park k) = 0
+holderWord ws (lock l) = getD ws (at (shapeOf ws) (Holder l)) 0
+holderWord ws (condition c) = 0
+
+-- a queue: its words, and then its ring
+unfoldable pub visit : List ℕ → Queue → List ℕ → Option (List ℕ)
+visit ws q js =
+    cond (heading (shapeOf ws .processes) (kindOf q) (tailWord ws q) (holderWord ws q))
+    (ringed (records (shapeOf ws) ws) (shapeOf ws .processes) (kindOf q) (holderWord ws q / 8) (tailWord ws q / 8) js) none
+
+-- some queues, in their order
+unfoldable pub visits : List ℕ → List Queue → List ℕ → Option (List ℕ)
+visits ws [] js = some js
+visits ws (q ∷ qs) js = then (visit ws q js) (visits ws qs)
 
 pub visits-append : (ws : List ℕ) (xs ys : List Queue) (js : List ℕ) → visits ws (xs ++ ys) js ≡ then (visits ws xs js) (visits ws ys)
 unfolding visits
@@ -129,56 +136,110 @@ then-some : (o : Option (List ℕ)) → then o (λ js. some js) ≡ o
 then-some none = refl
 then-some (some js) = refl
 
-module _ (ws : List ℕ) (k : ℕ) where
-  visits-more : (i : ℕ) (js is : List ℕ) (out : Option (List ℕ)) → visits ws (queuesOf k i) js ≡ some is → visit ws (queueAt k i) is ≡ out → visits ws (queuesOf k (i + 1)) js ≡ out
-  unfolding visits queuesOf
-  visits-more i js is out e f = rw (add-one, visits-append ws (queuesOf k i) (queueAt k i ∷ []) js, e, f) (then-some out)
+-- ---- by kind and number
 
-  visits-none : (i m : ℕ) (js : List ℕ) → i ≤ m → visits ws (queuesOf k i) js ≡ none → visits ws (queuesOf k m) js ≡ none
-  unfolding queuesOf
-  visits-none i zero js l e = let z : i ≡ 0 = omega arith in rw z at e
-  visits-none i (suc m) js l e = elim (ℕ-discrete i (suc m)) [
-    | yes d ↦ rw d at e
-    | no d ↦ rw (visits-append ws (queuesOf k m) (queueAt k m ∷ []) js, visits-none i m js (omega arith) e)
-  ]
+-- queue i of kind k, from 0; ready is the one before the parks
+abbrev pub queueAt : ℕ → ℕ → Queue
+queueAt zero zero = ready
+queueAt zero (suc i) = park (suc i)
+queueAt (suc zero) i = lock (suc i)
+queueAt (suc (suc k)) i = condition (suc i)
 
--- the first i queues are passed, of those that js₀ leaves
-pub record Passed (ws : List ℕ) (P k i : ℕ) (ms : List ℕ) (m : ℕ) (js₀ : List ℕ) : Type 0 where
-  pub js : List ℕ
-  pub met : Met P ms js m
-  pub so : visits ws (queuesOf k i) js₀ ≡ some js
+-- the first m queues of kind k
+unfoldable pub queuesOf : ℕ → ℕ → List Queue
+queuesOf k zero = []
+queuesOf k (suc m) = queuesOf k m ++ (queueAt k m ∷ [])
 
-pub passed-none : (ws : List ℕ) (P k : ℕ) (ms : List ℕ) (m : ℕ) (js : List ℕ) → Met P ms js m → Passed ws P k 0 ms m js
-unfolding visits queuesOf
-passed-none ws P k ms m js t = record { js = js; met = t; so = refl }
+-- where the words of the queues of a kind begin, and how many such queues there are
+abbrev pub begins : Shape → ℕ → ℕ
+begins n zero = 5
+begins n (suc zero) = locksAt n
+begins n (suc (suc k)) = conditionsAt n
 
-pub passed-all : (ws : List ℕ) (P k i n : ℕ) (ms : List ℕ) (m : ℕ) (js : List ℕ) → Passed ws P k i ms m js → i ≤ n → n ≤ i → Told P m ms (visits ws (queuesOf k n) js)
-passed-all ws P k i n ms m js p a b =
-    let e : i ≡ n = omega arith in
-    told-some P m ms (p .js) _ (rw e at (p .so)) (p .met)
+abbrev pub numberOf : Shape → ℕ → ℕ
+numberOf n zero = 1 + n .parks
+numberOf n (suc zero) = n .locks
+numberOf n (suc (suc k)) = n .conditions
 
-module _ {ws : List ℕ} {r P k b n : ℕ} (L : Laid ws r P k b n) (i at w v : ℕ) (e : at ≡ headAt b k i) (d : w ≡ getD ws at 0)
-    (f : (k ≡ 1 → v ≡ getD ws (at + 1) 0) × ((k ≡ 1 → ⊥) → v ≡ 0)) (below : i < n) (ms : List ℕ) (m : ℕ) (js₀ : List ℕ) (p : Passed ws P k i ms m js₀)
-    (ok : Bool) (is-ok : ok ≡ heading P k w v) where
-  pub passed-odd : (ms′ : List ℕ) → not ok ≡ true → Told P 1024 ms′ (visits ws (queuesOf k n) js₀)
-  passed-odd ms′ x =
-      told-none P ms′ _ (visits-none ws k (i + 1) n js₀ (omega arith)
-      (visits-more ws k i js₀ (p .js) none (p .so) (visit-no L i at w v e d f (p .js) (sym is-ok ∙ not-true ok x))))
+pub kind-at : (k i : ℕ) → k ≤ 2 → kindOf (queueAt k i) ≡ k
+kind-at zero zero h = refl
+kind-at zero (suc i) h = refl
+kind-at (suc zero) i h = refl
+kind-at (suc (suc zero)) i h = refl
+kind-at (suc (suc (suc k))) i h = absurd (omega arith)
 
-  module _ (x : not ok ≡ false) (c : ℕ) (ms′ : List ℕ) (told : (js : List ℕ) → Met P ms js m → Told P c ms′ (ringed ws r P k (v / 8) (w / 8) js)) where
-    after : visits ws (queuesOf k (i + 1)) js₀ ≡ ringed ws r P k (v / 8) (w / 8) (p .js)
-    after = visits-more ws k i js₀ (p .js) _ (p .so) (visit-yes L i at w v e d f (p .js) (sym is-ok ∙ not-false ok x))
+tail-at : (n : Shape) (k i : ℕ) → k ≤ 2 → begins n k + headAt k i ≡ at n (Tail (queueAt k i))
+unfolding headAt
+tail-at n zero zero h = omega arith
+tail-at n zero (suc i) h = omega arith
+tail-at n (suc zero) i h = omega arith
+tail-at n (suc (suc zero)) i h = omega arith
+tail-at n (suc (suc (suc k))) i h = absurd (omega arith)
 
-    pub passed-broken : (ms″ : List ℕ) → c ≡ 1024 → Told P 1024 ms″ (visits ws (queuesOf k n) js₀)
-    passed-broken ms″ z = go (ringed ws r P k (v / 8) (w / 8) (p .js)) after (told (p .js) (p .met))
+holder-at : (ws : List ℕ) (k i : ℕ) → k ≤ 2 → holderIn (drop (begins (shapeOf ws) k) ws) k (headAt k i) ≡ holderWord ws (queueAt k i)
+unfolding headAt holderIn
+holder-at ws zero zero h = refl
+holder-at ws zero (suc i) h = refl
+holder-at ws (suc zero) i h = getD-drop (locksAt (shapeOf ws)) ws (i * 2 + 1) 0 ∙ ap (λ (j : ℕ). getD ws j 0) (place (shapeOf ws) i)
+  where
+    place : (n : Shape) (i : ℕ) → locksAt n + (i * 2 + 1) ≡ at n (Holder (suc i))
+    place n i = omega arith
+holder-at ws (suc (suc zero)) i h = refl
+holder-at ws (suc (suc (suc k))) i h = absurd (omega arith)
+
+-- ---- a pass over the words of a kind visits its queues
+
+module _ (ws : List ℕ) where
+  abbrev n : Shape
+  n = shapeOf ws
+
+  module _ (k : ℕ) (h : k ≤ 2) where
+    abbrev hs : List ℕ
+    hs = drop (begins n k) ws
+
+    queued-visit : (i : ℕ) (js : List ℕ) → queued hs (records n ws) (n .processes) k (headAt k i) js ≡ visit ws (queueAt k i) js
+    unfolding queued visit
+    queued-visit i js =
+        let w : getD hs (headAt k i) 0 ≡ tailWord ws (queueAt k i) = getD-drop (begins n k) ws (headAt k i) 0 ∙ ap (λ (j : ℕ). getD ws j 0) (tail-at n k i h) in
+        rw (w, holder-at ws k i h, kind-at k i h)
+
+    passed-visits : (m : ℕ) (js : List ℕ) → passed hs (records n ws) (n .processes) k m js ≡ visits ws (queuesOf k m) js
+    unfolding passed visits queuesOf
+    passed-visits zero js = refl
+    passed-visits (suc m) js = rw (visits-append ws (queuesOf k m) (queueAt k m ∷ []) js, passed-visits m js) (go (visits ws (queuesOf k m) js))
       where
-        go : (out : Option (List ℕ)) → visits ws (queuesOf k (i + 1)) js₀ ≡ out → Told P c ms′ out → Told P 1024 ms″ (visits ws (queuesOf k n) js₀)
-        go none q t = told-none P ms″ _ (visits-none ws k (i + 1) n js₀ (omega arith) q)
-        go (some js) q t = let u = L .counted .processes in let y = L .processes in absurd (omega arith)
+        go : (o : Option (List ℕ)) → then o (queued hs (records n ws) (n .processes) k (headAt k m)) ≡ then o (visits ws (queueAt k m ∷ []))
+        go none = refl
+        go (some is) = queued-visit m is ∙ sym (then-some (visit ws (queueAt k m) is))
 
-    pub passed-on : (c ≡ 1024 → ⊥) → Passed ws P k (i + 1) ms′ c js₀
-    passed-on z = go (ringed ws r P k (v / 8) (w / 8) (p .js)) after (told (p .js) (p .met))
-      where
-        go : (out : Option (List ℕ)) → visits ws (queuesOf k (i + 1)) js₀ ≡ out → Told P c ms′ out → Passed ws P k (i + 1) ms′ c js₀
-        go none q t = absurd (z t)
-        go (some js) q t = record { js = js; met = t; so = q }
+  -- ---- the words of a kind and the records, lent
+
+  -- the area from a on, lent
+  abbrev from : ℕ → List ℕ
+  from a = midOf a (length ws - a) ws
+
+  pub lent-runs : (b : Bool) → Decides b (Runs ws (from (recordsAt n)) (n .processes)) → Decides b (Runs ws (records n ws) (n .processes))
+  lent-runs b d = rw (part-lent (recordsAt n) ws) at d
+
+  pub lent-visits : (k : ℕ) → k ≤ 2 → (c m : ℕ) (ms js : List ℕ) → Told (n .processes) c ms (passed (from (begins n k)) (from (recordsAt n)) (n .processes) k m js) → Told (n .processes) c ms (visits ws (queuesOf k m) js)
+  lent-visits k h c m ms js t = rw (part-lent (begins n k) ws, part-lent (recordsAt n) ws, passed-visits k h m js) at t
+
+  module _ (c : Counted ws) where
+    pub lent-records : 3 * n .processes ≤ length (from (recordsAt n))
+    lent-records = rw (part-lent (recordsAt n) ws, length-drop (recordsAt n) ws) (let l = c .long in omega arith)
+
+    module _ (small : Words ws) where
+      number-small : (k : ℕ) → numberOf n k < 1024
+      number-small zero = let p = c .parks in omega arith
+      number-small (suc zero) = let s = small 1 in omega arith
+      number-small (suc (suc k)) = omega arith
+
+      heads-long : (k : ℕ) → k ≤ 2 → headAt k (numberOf n k) ≤ length ws - begins n k
+      unfolding headAt
+      heads-long zero h = let l = c .long in omega arith
+      heads-long (suc zero) h = let l = c .long in omega arith
+      heads-long (suc (suc zero)) h = let l = c .long in omega arith
+      heads-long (suc (suc (suc k))) h = absurd (omega arith)
+
+      pub lent-within : (k : ℕ) → k ≤ 2 → (n .processes < 1024) × (3 * n .processes ≤ length (from (recordsAt n))) × (numberOf n k < 1024) × (headAt k (numberOf n k) ≤ length (from (begins n k)))
+      lent-within k h = (let p = c .processes in omega arith, lent-records, number-small k, rw (part-lent (begins n k) ws, length-drop (begins n k) ws) (heads-long k h))

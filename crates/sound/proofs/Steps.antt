@@ -7,10 +7,10 @@ use mathlib.Core.Bool.{Bool, true, false, not, _&&_, and-false}
 use mathlib.Core.List.{List, _∷_}
 use mathlib.Core.Option.{none, some}
 use lib.Dec.{eqb}
-use lib.ListN.{length}
+use lib.ListN.{length, getD}
 use borrow.Author.Tests.{lt-ltb, le-ltb, le-leb, lt-leb, eq-eqb, ne-eqb}
 use Rattle.model.specs.Queue.{member}
-use Rattle.sound.specs.Walk.{isFresh, fitting, linkIn, nextIn, fitsIn, walked, ringed, heading, headAt}
+use Rattle.sound.specs.Walk.{isFresh, fitting, linkIn, nextIn, fitsIn, walked, ringed, heading, headAt, holderIn}
 
 -- ---- whether a process is fresh
 
@@ -96,47 +96,71 @@ module _ (P k w v : ℕ) where
             both : eqb k 2 && eqb w 1 ≡ false
             both = elim (ℕ-discrete k 2) [ yes e ↦ rw (ne-eqb w 1 (n e), and-false) | no e ↦ rw (ne-eqb k 2 e) ]
 
--- where a queue's words begin
-pub head-at-lock : (b k i : ℕ) → k ≡ 1 → b + i * 2 ≡ headAt b k i
-unfolding headAt
-head-at-lock b k i e = rw (eq-eqb k 1 e)
+-- ---- where a queue's words stand
 
-pub head-at-other : (b k i : ℕ) → (k ≡ 1 → ⊥) → b + i ≡ headAt b k i
-unfolding headAt
-head-at-other b k i e = rw (ne-eqb k 1 e)
+module _ (k i : ℕ) where
+  pub head-at-lock : k ≡ 1 → i * 2 ≡ headAt k i
+  unfolding headAt
+  head-at-lock e = rw (eq-eqb k 1 e)
+
+  pub head-at-other : (k ≡ 1 → ⊥) → i ≡ headAt k i
+  unfolding headAt
+  head-at-other n = rw (ne-eqb k 1 n)
+
+  -- among the words of m queues, both those of a lock
+  module _ (a m l : ℕ) (e : a ≡ headAt k i) (below : i < m) (long : headAt k m ≤ l) where
+    pub head-within : a < l
+    unfolding headAt
+    head-within = elim (ℕ-discrete k 1) [
+      | yes d ↦ let x = rw (eq-eqb k 1 d) at e in let y = rw (eq-eqb k 1 d) at long in omega arith
+      | no d ↦ let x = rw (ne-eqb k 1 d) at e in let y = rw (ne-eqb k 1 d) at long in omega arith
+    ]
+
+    pub holder-within : k ≡ 1 → a + 1 < l
+    unfolding headAt
+    holder-within d = let x = rw (eq-eqb k 1 d) at e in let y = rw (eq-eqb k 1 d) at long in omega arith
+
+module _ (hs : List ℕ) (k a : ℕ) where
+  pub holder-lock : k ≡ 1 → getD hs (a + 1) 0 ≡ holderIn hs k a
+  unfolding holderIn
+  holder-lock e = rw (eq-eqb k 1 e)
+
+  pub holder-other : (k ≡ 1 → ⊥) → 0 ≡ holderIn hs k a
+  unfolding holderIn
+  holder-other n = rw (ne-eqb k 1 n)
 
 -- ---- the walk
 
-module _ (ws : List ℕ) (r P k o t : ℕ) where
-  pub walk-out : (n p b : ℕ) (js : List ℕ) → n ≤ 0 → walked ws r P k o t n p b js ≡ none
+module _ (rs : List ℕ) (P k o t : ℕ) where
+  pub walk-out : (n p b : ℕ) (js : List ℕ) → n ≤ 0 → walked rs P k o t n p b js ≡ none
   unfolding walked
   walk-out zero p b js l = refl
   walk-out (suc n) p b js l = absurd (omega arith)
 
-  pub walk-stale : (n p b : ℕ) (js : List ℕ) → isFresh P o p js ≡ false → walked ws r P k o t n p b js ≡ none
+  pub walk-stale : (n p b : ℕ) (js : List ℕ) → isFresh P o p js ≡ false → walked rs P k o t n p b js ≡ none
   unfolding walked
   walk-stale zero p b js e = refl
   walk-stale (suc n) p b js e = rw e
 
-  pub walk-unfit : (n p b : ℕ) (js : List ℕ) → fitsIn ws r k b p ≡ false → walked ws r P k o t n p b js ≡ none
+  pub walk-unfit : (n p b : ℕ) (js : List ℕ) → fitsIn rs k b p ≡ false → walked rs P k o t n p b js ≡ none
   unfolding walked
   walk-unfit zero p b js e = refl
   walk-unfit (suc n) p b js e = rw (e, and-false)
 
-  pub walk-last : (n p b : ℕ) (js : List ℕ) → 0 < n → isFresh P o p js ≡ true → fitsIn ws r k b p ≡ true → p ≡ t → walked ws r P k o t n p b js ≡ some (p ∷ js)
+  pub walk-last : (n p b : ℕ) (js : List ℕ) → 0 < n → isFresh P o p js ≡ true → fitsIn rs k b p ≡ true → p ≡ t → walked rs P k o t n p b js ≡ some (p ∷ js)
   unfolding walked
   walk-last zero p b js l e f q = absurd (omega arith)
   walk-last (suc n) p b js l e f q = rw (e, f, eq-eqb p t q)
 
-  pub walk-on : (n m p b : ℕ) (js : List ℕ) → n ≡ suc m → isFresh P o p js ≡ true → fitsIn ws r k b p ≡ true → (p ≡ t → ⊥)
-      → walked ws r P k o t n p b js ≡ walked ws r P k o t m (nextIn ws r p) (linkIn ws r p / 8192) (p ∷ js)
+  pub walk-on : (n m p b : ℕ) (js : List ℕ) → n ≡ suc m → isFresh P o p js ≡ true → fitsIn rs k b p ≡ true → (p ≡ t → ⊥)
+      → walked rs P k o t n p b js ≡ walked rs P k o t m (nextIn rs p) (linkIn rs p / 8192) (p ∷ js)
   unfolding walked
   walk-on n m p b js s e f q = rw (s, e, f, ne-eqb p t q)
 
-  pub ring-empty : (js : List ℕ) → t ≡ 0 → ringed ws r P k o t js ≡ some js
+  pub ring-empty : (js : List ℕ) → t ≡ 0 → ringed rs P k o t js ≡ some js
   unfolding ringed
   ring-empty js e = rw (eq-eqb t 0 e)
 
-  pub ring-walk : (js : List ℕ) → (t ≡ 0 → ⊥) → ringed ws r P k o t js ≡ walked ws r P k o t (P - length js) (nextIn ws r t) 7 js
+  pub ring-walk : (js : List ℕ) → (t ≡ 0 → ⊥) → ringed rs P k o t js ≡ walked rs P k o t (P - length js) (nextIn rs t) 7 js
   unfolding ringed
   ring-walk js e = rw (ne-eqb t 0 e)

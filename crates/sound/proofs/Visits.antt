@@ -7,16 +7,20 @@ use mathlib.Core.Bool.{Bool, true, false, _&&_, cond}
 use mathlib.Core.List.{List, [], _∷_}
 use mathlib.Core.Option.{Option, none, some, Option·none-ne-some, Option·some-injective}
 use lib.ListN.{getD}
+use lib.Seq.{getD-drop}
 use Rattle.model.specs.Queue.{Queue, inside, bit, same, exists, member, count, All}
 use Rattle.model.specs.Queue.Queue.{ready}
 use Rattle.model.proofs.Tests.{inside-bounds}
 use Rattle.model.proofs.Lists.{member-count, absent-count, at-most}
-use Rattle.area.specs.Layout.{recordsAt}
+use Rattle.area.specs.Layout.{at, recordsAt}
 use Rattle.area.specs.Layout.Part.{tail, next}
+use Rattle.area.specs.Layout.Slot.{Link, Flags, Timer}
 use Rattle.area.specs.Reading.{shapeOf, partsOf, queueOf}
+use Rattle.area.specs.Rings.{records}
 use Rattle.area.proofs.Rings.{Once, ring-ext}
 use Rattle.area.proofs.States.{Words, read-ring}
-use Rattle.sound.specs.Walk.{nextIn, heading, kindOf, tailWord, holderWord, visit, visits, then}
+use Rattle.sound.specs.Walk.{recordAt, linkIn, nextIn, heading, then}
+use Rattle.sound.proofs.Queues.{kindOf, tailWord, holderWord, visit, visits}
 use Rattle.sound.proofs.Tests.{Headed, heading-is, is-heading}
 use Rattle.sound.proofs.Chains.{Member, Ringed, ring-read, ring-full, all-member, onto, count-onto}
 use Rattle.area.proofs.Rings.{In}
@@ -34,15 +38,29 @@ total ws x (q ∷ qs) = count x (reading ws q) + total ws x qs
 -- a queue whose words are in order and whose reading is a ring
 pub record Visited (ws : List ℕ) (q : Queue) : Type 0 where
   pub head : Headed (getD ws 0 0) (kindOf q) (tailWord ws q) (holderWord ws q)
-  pub ring : Ringed ws (recordsAt (shapeOf ws)) (getD ws 0 0) (kindOf q) (holderWord ws q / 8) (tailWord ws q / 8) (reading ws q)
+  pub ring : Ringed (records (shapeOf ws) ws) (getD ws 0 0) (kindOf q) (holderWord ws q / 8) (tailWord ws q / 8) (reading ws q)
 
 -- ---- what the words say of a queue and of a process
+
+-- the words of a record
+module _ (ws : List ℕ) (p : ℕ) where
+  pub link-word : linkIn (records (shapeOf ws) ws) p ≡ getD ws (at (shapeOf ws) (Link p)) 0
+  link-word = getD-drop (recordsAt (shapeOf ws)) ws (recordAt p) 0
+
+  pub flags-word : getD (records (shapeOf ws) ws) (recordAt p + 1) 0 ≡ getD ws (at (shapeOf ws) (Flags p)) 0
+  flags-word = getD-drop (recordsAt (shapeOf ws)) ws (recordAt p + 1) 0 ∙ ap (λ (i : ℕ). getD ws i 0) (omega arith)
+
+  pub timer-word : getD (records (shapeOf ws) ws) (recordAt p + 2) 0 ≡ getD ws (at (shapeOf ws) (Timer p)) 0
+  timer-word = getD-drop (recordsAt (shapeOf ws)) ws (recordAt p + 2) 0 ∙ ap (λ (i : ℕ). getD ws i 0) (omega arith)
+
+records-small : (ws : List ℕ) → Words ws → Words (records (shapeOf ws) ws)
+records-small ws small i = rw (getD-drop (recordsAt (shapeOf ws)) ws i 0) (small (recordsAt (shapeOf ws) + i))
 
 pub tail-part : (ws : List ℕ) (q : Queue) → exists (shapeOf ws) q ≡ true → getD ws 0 0 ≤ 1023 → tailWord ws q / 8 ≤ getD ws 0 0 → partsOf (shapeOf ws) ws (tail q) ≡ tailWord ws q / 8
 tail-part ws q h s l = rw h (omega arith)
 
-pub next-part : (ws : List ℕ) (p : ℕ) → inside (getD ws 0 0) p ≡ true → partsOf (shapeOf ws) ws (next p) ≡ nextIn ws (recordsAt (shapeOf ws)) p
-next-part ws p h = rw h
+pub next-part : (ws : List ℕ) (p : ℕ) → inside (getD ws 0 0) p ≡ true → partsOf (shapeOf ws) ws (next p) ≡ nextIn (records (shapeOf ws) ws) p
+next-part ws p h = rw (h, link-word ws p)
 
 once-inside : (P : ℕ) (xs : List ℕ) → Once xs → ((x : ℕ) → member x xs ≡ true → inside P x ≡ true) → (x : ℕ) → count x xs ≤ bit (inside P x)
 once-inside P xs o m x = go (member x xs) refl
@@ -53,17 +71,17 @@ once-inside P xs o m x = go (member x xs) refl
 
 -- a ring is its queue's reading
 read-queue : (ws : List ℕ) (q : Queue) (k o : ℕ) (ys : List ℕ) → exists (shapeOf ws) q ≡ true → getD ws 0 0 ≤ 1023 → tailWord ws q / 8 ≤ getD ws 0 0 → Once ys
-    → Ringed ws (recordsAt (shapeOf ws)) (getD ws 0 0) k o (tailWord ws q / 8) ys → reading ws q ≡ ys
+    → Ringed (records (shapeOf ws) ws) (getD ws 0 0) k o (tailWord ws q / 8) ys → reading ws q ≡ ys
 read-queue ws q k o ys h s l once R =
     rw (tail-part ws q h s l, ← R .ends)
     (read-ring (λ p. partsOf (shapeOf ws) ws (next p)) (getD ws 0 0) ys
-    (ring-ext (nextIn ws (recordsAt (shapeOf ws))) (λ p. partsOf (shapeOf ws) ws (next p)) ys (λ p m. sym (next-part ws p (ins p m))) (rw (← R .ends) at (R .linked)))
+    (ring-ext (nextIn (records (shapeOf ws) ws)) (λ p. partsOf (shapeOf ws) ws (next p)) ys (λ p m. sym (next-part ws p (ins p m))) (rw (← R .ends) at (R .linked)))
     once
     (λ p m. inside-bounds (getD ws 0 0) p (ins p m) .0)
     (at-most (getD ws 0 0) ys (once-inside (getD ws 0 0) ys once ins)))
   where
     ins : (p : ℕ) → member p ys ≡ true → inside (getD ws 0 0) p ≡ true
-    ins p m = all-member (Member ws (recordsAt (shapeOf ws)) (getD ws 0 0) k o) ys (R .members) p m .within
+    ins p m = all-member (Member (records (shapeOf ws) ws) (getD ws 0 0) k o) ys (R .members) p m .within
 
 -- ---- one queue
 
@@ -80,7 +98,7 @@ visit-read ws q js js′ h s once w = go (heading (getD ws 0 0) (kindOf q) (tail
     go false e = absurd (Option·none-ne-some js′ (rw e at w))
     go true e =
         let d = heading-is (getD ws 0 0) (kindOf q) (tailWord ws q) (holderWord ws q) e in
-        let a = ring-read ws (recordsAt (shapeOf ws)) (getD ws 0 0) (kindOf q) (holderWord ws q / 8) (tailWord ws q / 8) js js′ (rw e at w) in
+        let a = ring-read (records (shapeOf ws) ws) (getD ws 0 0) (kindOf q) (holderWord ws q / 8) (tailWord ws q / 8) js js′ (rw e at w) in
         let sum : (x : ℕ) → count x js′ ≡ count x (a .ys) + count x js = λ x. ap (count x) (a .done) ∙ count-onto x (a .ys) js in
         let r = read-queue ws q (kindOf q) (holderWord ws q / 8) (a .ys) h s (d .tail) (λ x. let y = a .once once x in let z = sum x in omega arith) (a .ring) in
         record { visited = record { head = d; ring = rw r (a .ring) }; counts = λ x. rw r (sum x); once = a .once once }
@@ -89,7 +107,7 @@ visit-full : (ws : List ℕ) (q : Queue) (js : List ℕ) → Words ws → Visite
 unfolding visit
 visit-full ws q js small v c =
     rw (is-heading (getD ws 0 0) (kindOf q) (tailWord ws q) (holderWord ws q) (v .head))
-    (ring-full ws (recordsAt (shapeOf ws)) (getD ws 0 0) (kindOf q) (holderWord ws q / 8) (tailWord ws q / 8) small (reading ws q) js (v .ring) c)
+    (ring-full (records (shapeOf ws) ws) (getD ws 0 0) (kindOf q) (holderWord ws q / 8) (tailWord ws q / 8) (records-small ws small) (reading ws q) js (v .ring) c)
 
 -- ---- several queues
 

@@ -18,35 +18,35 @@ pub told-some : (P r : ℕ) (ms js : List ℕ) (out : Option (List ℕ)) → out
 told-some P r ms js out e t = subst (λ (x : Option (List ℕ)). Told P r ms x) (sym e) t
 
 -- at p, behind a priority b, with m processes met, of which the table ms tells: the walk ends as out
-pub record Going (ws : List ℕ) (r P k o t : ℕ) (ms : List ℕ) (p b m : ℕ) (out : Option (List ℕ)) : Type 0 where
+pub record Going (rs : List ℕ) (P k o t : ℕ) (ms : List ℕ) (p b m : ℕ) (out : Option (List ℕ)) : Type 0 where
   pub js : List ℕ
   pub met : Met P ms js m
-  pub rest : out ≡ walked ws r P k o t (P - m) p b js
+  pub rest : out ≡ walked rs P k o t (P - m) p b js
 
-module _ (ws : List ℕ) (r P k o t : ℕ) where
-  pub going-none : (ms js : List ℕ) (m : ℕ) → t ≡ 0 → Met P ms js m → Told P m ms (ringed ws r P k o t js)
-  going-none ms js m e T = told-some P m ms js _ (ring-empty ws r P k o t js e) T
+module _ (rs : List ℕ) (P k o t : ℕ) where
+  pub going-none : (ms js : List ℕ) (m : ℕ) → t ≡ 0 → Met P ms js m → Told P m ms (ringed rs P k o t js)
+  going-none ms js m e T = told-some P m ms js _ (ring-empty rs P k o t js e) T
 
-  pub going-start : (ms js : List ℕ) (p m : ℕ) → (t ≡ 0 → ⊥) → Met P ms js m → p ≡ nextIn ws r t → Going ws r P k o t ms p 7 m (ringed ws r P k o t js)
-  going-start ms js p m n T e = record { js = js; met = T; rest = rw (e, T .counts) (ring-walk ws r P k o t js n) }
+  pub going-start : (ms js : List ℕ) (p m : ℕ) → (t ≡ 0 → ⊥) → Met P ms js m → p ≡ nextIn rs t → Going rs P k o t ms p 7 m (ringed rs P k o t js)
+  going-start ms js p m n T e = record { js = js; met = T; rest = rw (e, T .counts) (ring-walk rs P k o t js n) }
 
-  module _ (ms : List ℕ) (p b m : ℕ) (out : Option (List ℕ)) (g : Going ws r P k o t ms p b m out) where
+  module _ (ms : List ℕ) (p b m : ℕ) (out : Option (List ℕ)) (g : Going rs P k o t ms p b m out) where
     pub going-out : (ms′ : List ℕ) → P ≤ m → Told P 1024 ms′ out
-    going-out ms′ l = told-none P ms′ out (g .rest ∙ walk-out ws r P k o t (P - m) p b (g .js) (omega arith))
+    going-out ms′ l = told-none P ms′ out (g .rest ∙ walk-out rs P k o t (P - m) p b (g .js) (omega arith))
 
     module _ (new : Bool) (is-new : (js : List ℕ) → Table ms js → new ≡ isFresh P o p js) where
       pub going-stale : (ms′ : List ℕ) → not new ≡ true → Told P 1024 ms′ out
-      going-stale ms′ e = told-none P ms′ out (g .rest ∙ walk-stale ws r P k o t (P - m) p b (g .js) (sym (is-new (g .js) (g .met .table)) ∙ not-true new e))
+      going-stale ms′ e = told-none P ms′ out (g .rest ∙ walk-stale rs P k o t (P - m) p b (g .js) (sym (is-new (g .js) (g .met .table)) ∙ not-true new e))
 
-      module _ (fit : Bool) (is-fit : fit ≡ fitsIn ws r k b p) where
+      module _ (fit : Bool) (is-fit : fit ≡ fitsIn rs k b p) where
         pub going-unfit : (ms′ : List ℕ) → not fit ≡ true → Told P 1024 ms′ out
-        going-unfit ms′ e = told-none P ms′ out (g .rest ∙ walk-unfit ws r P k o t (P - m) p b (g .js) (sym is-fit ∙ not-true fit e))
+        going-unfit ms′ e = told-none P ms′ out (g .rest ∙ walk-unfit rs P k o t (P - m) p b (g .js) (sym is-fit ∙ not-true fit e))
 
         module _ (f₁ : not new ≡ false) (f₂ : not fit ≡ false) (below : m < P) (small : p < 1024) (ms′ : List ℕ) (after : ms′ ≡ marked ms p) where
           fresh : isFresh P o p (g .js) ≡ true
           fresh = sym (is-new (g .js) (g .met .table)) ∙ not-false new f₁
 
-          fits : fitsIn ws r k b p ≡ true
+          fits : fitsIn rs k b p ≡ true
           fits = sym is-fit ∙ not-false fit f₂
 
           more : Met P ms′ (p ∷ g .js) (m + 1)
@@ -54,8 +54,8 @@ module _ (ws : List ℕ) (r P k o t : ℕ) where
 
           pub going-last : p ≡ t → Told P (m + 1) ms′ out
           going-last e =
-              told-some P (m + 1) ms′ (p ∷ g .js) out (g .rest ∙ walk-last ws r P k o t (P - m) p b (g .js) (omega arith) fresh fits e) more
+              told-some P (m + 1) ms′ (p ∷ g .js) out (g .rest ∙ walk-last rs P k o t (P - m) p b (g .js) (omega arith) fresh fits e) more
 
-          pub going-on : (q a : ℕ) → (p ≡ t → ⊥) → q ≡ nextIn ws r p → a ≡ linkIn ws r p / 8192 → Going ws r P k o t ms′ q a (m + 1) out
+          pub going-on : (q a : ℕ) → (p ≡ t → ⊥) → q ≡ nextIn rs p → a ≡ linkIn rs p / 8192 → Going rs P k o t ms′ q a (m + 1) out
           going-on q a n e d =
-              record { js = p ∷ g .js; met = more; rest = rw (e, d) (g .rest ∙ walk-on ws r P k o t (P - m) (P - (m + 1)) p b (g .js) (omega arith) fresh fits n) }
+              record { js = p ∷ g .js; met = more; rest = rw (e, d) (g .rest ∙ walk-on rs P k o t (P - m) (P - (m + 1)) p b (g .js) (omega arith) fresh fits n) }

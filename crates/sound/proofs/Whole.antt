@@ -1,5 +1,5 @@
 -- What the check finds of a whole area is what makes it sound: from each clause of the one to each clause of the other, both ways. Assumes nothing.
-use Prim.Native.Nat.{ℕ, _-_, _/_, _%_, _≤_, _<_}
+use Prim.Native.Nat.{ℕ, _+_, _-_, _/_, _%_, _≤_, _<_}
 use native.Mathlib.Decide.{ℕ-discrete}
 use native.Mathlib.Omega.{arith}
 use mathlib.Core.Path.{_≡_, refl, sym, _∙_}
@@ -21,25 +21,27 @@ use Rattle.model.proofs.Tests.{Case, holds, fails, stops, same-case, eqb-yes, e
 use Rattle.model.proofs.Lists.{member-here, member-there}
 use Rattle.model.proofs.Places.{at-place, waiting-is}
 use Rattle.ring.specs.Ring.{lastOf, Linked}
-use Rattle.area.specs.Layout.{Slot, at, has, recordsAt}
+use Rattle.area.specs.Layout.{Slot, at, has}
 use Rattle.area.specs.Layout.Part.{kept, tail, locked, waiting}
 use Rattle.area.specs.Layout.Slot.{Processes, LocksConditions, Parks, Clock, Running, Tail, Holder, Link, Flags, Timer}
 use Rattle.area.specs.State.{last}
 use Rattle.area.specs.Reading.{shapeOf, partsOf, stateOf}
+use Rattle.area.specs.Rings.{records}
 use Rattle.area.specs.Sound.{Tidy, Sound}
 use Rattle.area.proofs.Rings.{last-member}
 use Rattle.area.proofs.States.{Words}
-use Rattle.sound.specs.Walk.{recordAt, linkIn, nextIn, kindOf, tailWord, holderWord}
+use Rattle.sound.specs.Walk.{recordAt, linkIn, nextIn}
 use Rattle.sound.specs.Parts.{Counted, Runs}
+use Rattle.sound.proofs.Queues.{kindOf, tailWord, holderWord}
 use Rattle.sound.proofs.Tests.{Fits, Headed}
 use Rattle.sound.proofs.Chains.{Member, all-member, member-all}
 use Rattle.sound.proofs.Lists.{every, every-in, in-every}
-use Rattle.sound.proofs.Visits.{reading, total, Visited, tail-part, total-one, total-two, placeIn, place-in}
+use Rattle.sound.proofs.Visits.{reading, total, Visited, link-word, flags-word, timer-word, tail-part, total-one, total-two, placeIn, place-in}
 
 -- what the check finds
 pub record Whole (ws : List ℕ) : Type 0 where
   pub counts : Counted ws
-  pub runs : Runs ws (recordsAt (shapeOf ws)) (getD ws 0 0)
+  pub runs : Runs ws (records (shapeOf ws) ws) (getD ws 0 0)
   pub each : (q : Queue) → exists (shapeOf ws) q ≡ true → Visited ws q
   pub once : (x : ℕ) → total ws x (every (shapeOf ws)) ≡ bit (inside (getD ws 0 0) x)
 
@@ -118,8 +120,8 @@ module _ (ws : List ℕ) (small : Words ws) (W : Whole ws) where
   abbrev P : ℕ
   P = getD ws 0 0
 
-  abbrev r : ℕ
-  r = recordsAt (shapeOf ws)
+  abbrev rs : List ℕ
+  rs = records (shapeOf ws) ws
 
   most : P ≤ 1023
   most = W .counts .processes
@@ -129,12 +131,16 @@ module _ (ws : List ℕ) (small : Words ws) (W : Whole ws) where
   none-there q h = rw h
 
   -- a member of a queue
-  there : (x : ℕ) (q : Queue) → member x (reading ws q) ≡ true → (exists n q ≡ true) × Member ws r P (kindOf q) (holderWord ws q / 8) x
+  there : (x : ℕ) (q : Queue) → member x (reading ws q) ≡ true → (exists n q ≡ true) × Member rs P (kindOf q) (holderWord ws q / 8) x
   there x q m = go (exists n q) refl
     where
-      go : (b : Bool) → exists n q ≡ b → (exists n q ≡ true) × Member ws r P (kindOf q) (holderWord ws q / 8) x
-      go true h = (h, all-member (Member ws r P (kindOf q) (holderWord ws q / 8)) (reading ws q) (W .each q h .ring .members) x m)
+      go : (b : Bool) → exists n q ≡ b → (exists n q ≡ true) × Member rs P (kindOf q) (holderWord ws q / 8) x
+      go true h = (h, all-member (Member rs P (kindOf q) (holderWord ws q / 8)) (reading ws q) (W .each q h .ring .members) x m)
       go false h = absurd (false≢true (rw (none-there q h) at m))
+
+  -- its record
+  record-fits : (x k : ℕ) → Fits k (linkIn rs x) (getD rs (recordAt x + 1) 0) (getD rs (recordAt x + 2) 0) → Fits k (getD ws (at n (Link x)) 0) (getD ws (at n (Flags x)) 0) (getD ws (at n (Timer x)) 0)
+  record-fits x k f = rw (link-word ws x, flags-word ws x, timer-word ws x) at f
 
   place : ℕ → Queue
   place x = placeIn ws x (every n)
@@ -177,16 +183,16 @@ module _ (ws : List ℕ) (small : Words ws) (W : Whole ws) where
           rw (none-there q h, i, stops (same-case (place x) q) (λ e. true≢false (sym (placed x i .0) ∙ rw e h)))
 
   -- the record of each process is that of a member of its place
-  own : (x : ℕ) → inside P x ≡ true → Member ws r P (kindOf (place x)) (holderWord ws (place x) / 8) x
-  own x i = there x (place x) (at-place P (reading ws) place stands x (place x) i refl) .1
+  own : (x : ℕ) → inside P x ≡ true → Fits (kindOf (place x)) (getD ws (at n (Link x)) 0) (getD ws (at n (Flags x)) 0) (getD ws (at n (Timer x)) 0)
+  own x i = record-fits x (kindOf (place x)) (there x (place x) (at-place P (reading ws) place stands x (place x) i refl) .1 .fits)
 
-  next-small : (x : ℕ) → inside P x ≡ true → nextIn ws r x ≤ P
+  next-small : (x : ℕ) → inside P x ≡ true → getD ws (at n (Link x)) 0 / 8 % 1024 ≤ P
   next-small x i =
       let q = place x in
       let v = W .each q (placed x i .0) in
       let m = at-place P (reading ws) place stands x q i refl in
-      let l : Linked (nextIn ws r) (last (reading ws q)) (reading ws q) = rw (v .ring .ends) (v .ring .linked) in
-      inside-bounds P (nextIn ws r x) (there (nextIn ws r x) q (ring-next (nextIn ws r) (reading ws q) l x m) .1 .within) .1
+      let l : Linked (nextIn rs) (last (reading ws q)) (reading ws q) = rw (v .ring .ends) (v .ring .linked) in
+      rw (link-word ws x) at (inside-bounds P (nextIn rs x) (there (nextIn rs x) q (ring-next (nextIn rs) (reading ws q) l x m) .1 .within) .1)
 
   -- running
   run-word : (getD ws 4 0 / 8 ≤ P) × (getD ws 4 0 % 8 ≡ 0)
@@ -218,8 +224,8 @@ module _ (ws : List ℕ) (small : Words ws) (W : Whole ws) where
       go (no e) = let a = d .held e in omega arith
   tidy-at (Tail (condition c)) h = let d = W .each (condition c) h .head in record { range = d .tail; low = d .wakes refl refl .0 }
   tidy-at (Holder l) h = let d = W .each (lock l) h .head in let a = d .whole in record { range = d .holder; low = omega arith }
-  tidy-at (Link p) h = (next-small p h, flags-tidy _ _ _ _ (own p h .fits) .2)
-  tidy-at (Flags p) h = let f = flags-tidy _ _ _ _ (own p h .fits) in (f .0, f .1)
+  tidy-at (Link p) h = (next-small p h, flags-tidy _ _ _ _ (own p h) .2)
+  tidy-at (Flags p) h = let f = flags-tidy _ _ _ _ (own p h) in (f .0, f .1)
   tidy-at (Timer p) h = tt
 
   closed-at : (q : Queue) → last (reading ws q) ≡ partsOf n ws (tail q)
@@ -236,7 +242,7 @@ module _ (ws : List ℕ) (small : Words ws) (W : Whole ws) where
   waits-at x = rw (waiting-is n (reading ws) place stands x (real-at x)) (go (inside P x) refl)
     where
       go : (b : Bool) → inside P x ≡ b → partsOf n ws (waiting x) ≡ bit (inside P x && isCondition (place x))
-      go true i = rw i (flag-bit (place x) _ _ _ (own x i .fits))
+      go true i = rw i (flag-bit (place x) _ _ _ (own x i))
       go false i = rw i
 
   locks-at : (l : ℕ) → partsOf n ws (locked l) ≡ bit (machine.locked (stateOf ws .fields) l)
@@ -262,11 +268,11 @@ module _ (ws : List ℕ) (small : Words ws) (W : Whole ws) where
   falls-at : (q : Queue) → Falling (priorities (stateOf ws .fields)) (reading ws q)
   falls-at q = go (exists n q) refl
     where
-      level : (x : ℕ) → member x (reading ws q) ≡ true → linkIn ws r x / 8192 ≡ partsOf n ws (kept (priority x))
-      level x m = let s = small (recordAt r x) in rw (there x q m .1 .within) (omega arith)
+      level : (x : ℕ) → member x (reading ws q) ≡ true → linkIn rs x / 8192 ≡ partsOf n ws (kept (priority x))
+      level x m = let s = small (at n (Link x)) in rw (there x q m .1 .within, link-word ws x) (omega arith)
 
       go : (b : Bool) → exists n q ≡ b → Falling (priorities (stateOf ws .fields)) (reading ws q)
-      go true h = falling-ext (λ x. linkIn ws r x / 8192) (priorities (stateOf ws .fields)) (reading ws q) level (W .each q h .ring .falls)
+      go true h = falling-ext (λ x. linkIn rs x / 8192) (priorities (stateOf ws .fields)) (reading ws q) level (W .each q h .ring .falls)
       go false h = rw (none-there q h) tt
 
   runs-at : getD ws 4 0 / 8 % 1024 ≡ first (reading ws ready)
@@ -275,10 +281,10 @@ module _ (ws : List ℕ) (small : Words ws) (W : Whole ws) where
       v : Visited ws ready
       v = W .each ready refl
 
-      go : (ys : List ℕ) → Linked (nextIn ws r) (getD ws 5 0 / 8) ys → lastOf 0 ys ≡ getD ws 5 0 / 8 → All (Member ws r P 0 0) ys → getD ws 4 0 / 8 % 1024 ≡ first ys
+      go : (ys : List ℕ) → Linked (nextIn rs) (getD ws 5 0 / 8) ys → lastOf 0 ys ≡ getD ws 5 0 / 8 → All (Member rs P 0 0) ys → getD ws 4 0 / 8 % 1024 ≡ first ys
       go [] l e m = let a = W .runs .nobody (sym e) in omega arith
       go (y ∷ ys) l e m =
-          let b = inside-bounds P (lastOf y ys) (all-member (Member ws r P 0 0) (y ∷ ys) m (lastOf y ys) (last-member y ys) .within) in
+          let b = inside-bounds P (lastOf y ys) (all-member (Member rs P 0 0) (y ∷ ys) m (lastOf y ys) (last-member y ys) .within) in
           let a = W .runs .somebody (λ z. omega arith) in
           let f = a .first in let w = a .within in let o = l .0 in let u = most in
           omega arith
@@ -292,8 +298,8 @@ module _ (ws : List ℕ) (small : Words ws) (W : Whole ws) where
       go true i (no e) =
           let a = W .runs .somebody e in
           let f = a .first in let w = a .within in let u = most in
-          let z : getD ws 4 0 / 8 % 1024 ≡ nextIn ws r (getD ws 5 0 / 8) = omega arith in
-          rw (i, z) (a .clear)
+          let z : getD ws 4 0 / 8 % 1024 ≡ nextIn rs (getD ws 5 0 / 8) = omega arith in
+          rw (i, z, ← link-word ws (nextIn rs (getD ws 5 0 / 8))) (a .clear)
 
   timers-at : (x : ℕ) → machine.waiting n (reading ws) x ≡ false → partsOf n ws (kept (timer x)) ≡ 0
   timers-at x w = go (inside P x) refl
@@ -302,14 +308,14 @@ module _ (ws : List ℕ) (small : Words ws) (W : Whole ws) where
       go false i = rw i
       go true i =
           let e : isCondition (place x) ≡ false = rw i at (sym (waiting-is n (reading ws) place stands x (real-at x)) ∙ w) in
-          let t = own x i .fits .idle (no-condition (place x) e) in
+          let t = own x i .idle (no-condition (place x) e) in
           rw i (omega arith)
 
   blocked-at : (l x : ℕ) → member x (reading ws (lock l)) ≡ true → partsOf n ws (kept (failed x)) ≡ 1
-  blocked-at l x m = let k = there x (lock l) m .1 in let f = k .fits .blocked refl in rw (k .within) (omega arith)
+  blocked-at l x m = let k = there x (lock l) m .1 in let f = record-fits x 1 (k .fits) .blocked refl in rw (k .within) (omega arith)
 
   asleep-at : (c x : ℕ) → member x (reading ws (condition c)) ≡ true → partsOf n ws (kept (failed x)) ≡ 0
-  asleep-at c x m = let k = there x (condition c) m .1 in let f = k .fits .waits refl in rw (k .within) (omega arith)
+  asleep-at c x m = let k = there x (condition c) m .1 in let f = record-fits x 2 (k .fits) .waits refl in rw (k .within) (omega arith)
 
   holders-at : (l : ℕ) → member (partsOf n ws (kept (holder l))) (reading ws (lock l)) ≡ false
   holders-at l = go (member (partsOf n ws (kept (holder l))) (reading ws (lock l))) refl

@@ -3,11 +3,11 @@ ghost use mathlib.Core.Path.{_≡_};
 ghost use mathlib.Core.Bool.{true};
 ghost use mathlib.Core.List.{List};
 ghost use Prim.Native.Nat.{ℕ, _+_, _*_, _≤_, _<_};
-ghost use lib.ListN.{length, getD};
+ghost use lib.ListN.{length};
 ghost use Rattle.area.specs.Sound.{Sound};
 ghost use Rattle.sound.specs.Marks.{metIn, marked, Table};
-ghost use Rattle.sound.specs.Walk.{isFresh, fitting, heading, ringed, visits, queuesOf, headAt, Met, Told};
-ghost use Rattle.sound.specs.Parts.{Decides, Counted, Laid, Runs};
+ghost use Rattle.sound.specs.Walk.{isFresh, fitting, ringed, heading, headAt, holderIn, passed, Met, Told};
+ghost use Rattle.sound.specs.Parts.{Decides, Counted, Runs};
 
 // Where the first words stand: the counts, running and the tail of ready; and how many words there are before the parks.
 const PROCESSES: usize = 0;
@@ -57,29 +57,29 @@ const CONDITION: u16 = 2;
 const HIGHEST: u16 = 7;
 
 // The bits of a word of the table.
-const BITS: u16 = 64;
+const BITS: usize = 64;
 
 // The answer where a ring is broken, above every number of processes.
-const BROKEN: u16 = 1024;
+const BROKEN: usize = 1024;
 
 // ---- the processes met so far, a bit for each
 
 // Whether p is met.
-fn met(marks: &[u64; 16], p: u16) -> bool
+fn met(marks: &[u64; 16], p: usize) -> bool
     requires { ⌜ p < 1024 ⌝ }
     ensures { λ r. ⌜ r ≡ metIn (now (marks .entry)) p ⌝ }
 {
-    let i = (p / BITS) as usize;
+    let i = p / BITS;
     let bits = marks[i] >> (p % BITS);
     bits % 2 == 1
 }
 
 // p is now met.
-fn mark(marks: &mut [u64; 16], p: u16)
+fn mark(marks: &mut [u64; 16], p: usize)
     requires { ⌜ p < 1024 ⌝ }
     ensures { λ _. ⌜ now (marks .exit) ≡ marked (now (marks .entry)) p ⌝ }
 {
-    let i = (p / BITS) as usize;
+    let i = p / BITS;
     let bits = marks[i];
     marks[i] = bits | (1 << (p % BITS));
 }
@@ -87,7 +87,7 @@ fn mark(marks: &mut [u64; 16], p: u16)
 // ---- one ring
 
 // Whether p can stand next in a ring: a process, not the holder of the ring's lock, and not met yet.
-fn fresh(processes: u16, holder: u16, p: u16, marks: &[u64; 16]) -> bool
+fn fresh(processes: usize, holder: usize, p: usize, marks: &[u64; 16]) -> bool
     requires { ⌜ processes < 1024 ⌝ }
     ensures { λ r. ⌜ (r ≡ true → (1 ≤ p) × (p ≤ processes)) × ((js : List ℕ) → Table (now (marks .entry)) js → r ≡ isFresh processes holder p js) ⌝ }
 {
@@ -130,32 +130,31 @@ fn fits(kind: u16, above: u16, link: u16, flags: u16, timer: u16) -> bool
 
 // Walks the ring of `tail` from its first and marks each process that it meets. The answer is how many are met by then, BROKEN if it is no such ring.
 fn walk(
-    area: &[u16],
-    records: usize,
-    processes: u16,
+    records: &[u16],
+    processes: usize,
     kind: u16,
-    holder: u16,
-    tail: u16,
-    count: u16,
+    holder: usize,
+    tail: usize,
+    count: usize,
     marks: &mut [u64; 16],
-) -> u16
-    requires { ⌜ (processes < 1024) × (records + 3 * processes ≤ length (now area)) × (tail ≤ processes) ⌝ }
-    ensures { λ r. ⌜ ((js : List ℕ) → Met processes (now (marks .entry)) js count → Told processes r (now (marks .exit)) (ringed (now (area .entry)) records processes kind holder tail js)) ⌝ }
+) -> usize
+    requires { ⌜ (processes < 1024) × (3 * processes ≤ length (now records)) × (tail ≤ processes) ⌝ }
+    ensures { λ r. ⌜ ((js : List ℕ) → Met processes (now (marks .entry)) js count → Told processes r (now (marks .exit)) (ringed (now (records .entry)) processes kind holder tail js)) ⌝ }
 {
     if tail == 0 {
         return count;
     }
-    let last = records + (tail as usize - 1) * RECORD;
-    let mut p = ring::next_field(area[last]);
+    let last = (tail - 1) * RECORD;
+    let mut p = ring::next_field(records[last]) as usize;
     let mut above = HIGHEST;
     let mut found = count;
     while found < processes {
         if !fresh(processes, holder, p, marks) {
             return BROKEN;
         }
-        let at = records + (p as usize - 1) * RECORD;
-        let link = area[at];
-        if !fits(kind, above, link, area[at + 1], area[at + 2]) {
+        let at = (p - 1) * RECORD;
+        let link = records[at];
+        if !fits(kind, above, link, records[at + 1], records[at + 2]) {
             return BROKEN;
         }
         mark(marks, p);
@@ -164,7 +163,7 @@ fn walk(
             return found;
         }
         above = ring::priority_field(link);
-        p = ring::next_field(link);
+        p = ring::next_field(link) as usize;
     }
     BROKEN
 }
@@ -172,7 +171,7 @@ fn walk(
 // ---- the queues of a kind
 
 // Whether the words of a queue of this kind are in order: w has the tail, v the holder, 0 where there is none.
-fn heads(processes: u16, kind: u16, w: u16, v: u16) -> bool
+fn in_order(processes: u16, kind: u16, w: u16, v: u16) -> bool
     ensures { λ r. ⌜ r ≡ heading processes kind w v ⌝ }
 {
     if processes < w / PROCESS_UNIT {
@@ -196,58 +195,56 @@ fn heads(processes: u16, kind: u16, w: u16, v: u16) -> bool
     w % PROCESS_UNIT == 0
 }
 
-// Where the words of queue i of this kind stand, those of the kind beginning at `from`.
-fn head_at(from: usize, kind: u16, i: usize) -> usize
-    requires { ⌜ (from < 1024) × (i < 1024) ⌝ }
-    ensures { λ r. ⌜ r ≡ headAt from kind i ⌝ }
+// Where the words of queue i of this kind stand, among those of the kind.
+fn head_at(kind: u16, i: usize) -> usize
+    requires { ⌜ i < 1024 ⌝ }
+    ensures { λ r. ⌜ r ≡ headAt kind i ⌝ }
 {
     if kind == LOCK {
-        return from + i * LOCK_WORDS;
+        return i * LOCK_WORDS;
     }
-    from + i
+    i
 }
 
 // The holder's word, 0 for a queue that has none.
-fn holder_word(area: &[u16], kind: u16, at: usize) -> u16
-    requires { ⌜ at + 1 < length (now area) ⌝ }
-    ensures { λ r. ⌜ (kind ≡ 1 → r ≡ getD (now (area .entry)) (at + 1) 0) × ((kind ≡ 1 → ⊥) → r ≡ 0) ⌝ }
+fn holder_word(heads: &[u16], kind: u16, at: usize) -> u16
+    requires { ⌜ (kind ≡ 1 → at + 1 < length (now heads)) ⌝ }
+    ensures { λ r. ⌜ r ≡ holderIn (now (heads .entry)) kind at ⌝ }
 {
     if kind == LOCK {
-        return area[at + 1];
+        return heads[at + 1];
     }
     0
 }
 
-// Walks the rings of the queues of a kind, `number` of them, whose words begin at `from`. The answer is as walk's.
+// Walks the rings of the queues of a kind, `number` of them, whose words stand first in `heads`. The answer is as walk's.
 fn rings(
-    area: &[u16],
-    records: usize,
+    heads: &[u16],
+    records: &[u16],
     processes: u16,
     kind: u16,
-    from: usize,
     number: usize,
-    count: u16,
+    count: usize,
     marks: &mut [u64; 16],
-) -> u16
-    requires { ⌜ Laid (now area) records processes kind from number ⌝ }
-    ensures { λ r. ⌜ ((js : List ℕ) → Met processes (now (marks .entry)) js count → Told processes r (now (marks .exit)) (visits (now (area .entry)) (queuesOf kind number) js)) ⌝ }
+) -> usize
+    requires { ⌜ (processes < 1024) × (3 * processes ≤ length (now records)) × (number < 1024) × (headAt kind number ≤ length (now heads)) ⌝ }
+    ensures { λ r. ⌜ ((js : List ℕ) → Met processes (now (marks .entry)) js count → Told processes r (now (marks .exit)) (passed (now (heads .entry)) (now (records .entry)) processes kind number js)) ⌝ }
 {
     let mut found = count;
     let mut i = 0;
     while i < number {
-        let at = head_at(from, kind, i);
-        let w = area[at];
-        let v = holder_word(area, kind, at);
-        if !heads(processes, kind, w, v) {
+        let at = head_at(kind, i);
+        let w = heads[at];
+        let v = holder_word(heads, kind, at);
+        if !in_order(processes, kind, w, v) {
             return BROKEN;
         }
         found = walk(
-            area,
             records,
-            processes,
+            processes as usize,
             kind,
-            v / PROCESS_UNIT,
-            w / PROCESS_UNIT,
+            (v / PROCESS_UNIT) as usize,
+            (w / PROCESS_UNIT) as usize,
             found,
             marks,
         );
@@ -295,9 +292,9 @@ fn counted(area: &[u16]) -> bool
 }
 
 // Whether the running process is the first of ready, 0 if ready is empty, and is not failed.
-fn runs(area: &[u16], records: usize, processes: u16) -> bool
-    requires { ⌜ (6 ≤ length (now area)) × (records + 3 * processes ≤ length (now area)) ⌝ }
-    ensures { λ r. ⌜ Decides r (Runs (now (area .entry)) records processes) ⌝ }
+fn runs(area: &[u16], records: &[u16], processes: u16) -> bool
+    requires { ⌜ (6 ≤ length (now area)) × (3 * processes ≤ length (now records)) ⌝ }
+    ensures { λ r. ⌜ Decides r (Runs (now (area .entry)) (now (records .entry)) processes) ⌝ }
 {
     let w = area[RUNNING];
     let tail = area[READY] / PROCESS_UNIT;
@@ -310,8 +307,8 @@ fn runs(area: &[u16], records: usize, processes: u16) -> bool
     if processes < tail {
         return false;
     }
-    let last = records + (tail as usize - 1) * RECORD;
-    let first = ring::next_field(area[last]);
+    let last = (tail as usize - 1) * RECORD;
+    let first = ring::next_field(records[last]);
     if first == 0 {
         return false;
     }
@@ -321,8 +318,8 @@ fn runs(area: &[u16], records: usize, processes: u16) -> bool
     if w != first * PROCESS_UNIT {
         return false;
     }
-    let at = records + (first as usize - 1) * RECORD;
-    let failed = area[at] / FAILED % 2;
+    let at = (first as usize - 1) * RECORD;
+    let failed = records[at] / FAILED % 2;
     if failed != 0 {
         return false;
     }
@@ -343,17 +340,17 @@ pub fn sound(area: &[u16]) -> bool
     let conditions = (second % LOCKS_UNIT) as usize;
     let first_lock = HEADER + parks;
     let first_condition = first_lock + LOCK_WORDS * locks;
-    let records = first_condition + conditions;
+    let first_record = first_condition + conditions;
+    let records = &area[first_record..];
     if !runs(area, records, processes) {
         return false;
     }
     let mut marks = [0u64; 16];
     let plain = rings(
-        area,
+        &area[READY..],
         records,
         processes,
         PLAIN,
-        READY,
         1 + parks,
         0,
         &mut marks,
@@ -362,11 +359,10 @@ pub fn sound(area: &[u16]) -> bool
         return false;
     }
     let blocked = rings(
-        area,
+        &area[first_lock..],
         records,
         processes,
         LOCK,
-        first_lock,
         locks,
         plain,
         &mut marks,
@@ -375,14 +371,13 @@ pub fn sound(area: &[u16]) -> bool
         return false;
     }
     let all = rings(
-        area,
+        &area[first_condition..],
         records,
         processes,
         CONDITION,
-        first_condition,
         conditions,
         blocked,
         &mut marks,
     );
-    all == processes
+    all == processes as usize
 }

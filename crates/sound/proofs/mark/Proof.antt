@@ -5,17 +5,11 @@ use borrow.Author.Needs.{needs}
 use Rattle.sound.proofs.mark.Statement.{statement}
 use Rattle.sound.proofs.mark.Tie as tie
 
-cast-i : tie.Need-cast-i
-cast-i c = search needs
-
 mul-bits : tie.Need-mul-bits
 mul-bits c = search needs
 
 element-copy-out-bits : tie.Need-element-copy-out-bits
 element-copy-out-bits c = search needs
-
-cast-marks : tie.Need-cast-marks
-cast-marks c = search needs
 
 shl-marks : tie.Need-shl-marks
 shl-marks c = search needs
@@ -34,10 +28,8 @@ pub mark-spec : {M : Type 1} → statement M
 mark-spec =
     tie.close
     (tie.spec
-    cast-i
     mul-bits
     element-copy-out-bits
-    cast-marks
     shl-marks
     mul-marks
     element-write-marks

@@ -5,17 +5,11 @@ use borrow.Author.Needs.{needs}
 use Rattle.sound.proofs.met.Statement.{statement}
 use Rattle.sound.proofs.met.Tie as tie
 
-cast-i : tie.Need-cast-i
-cast-i c = search needs
-
 mul-bits : tie.Need-mul-bits
 mul-bits c = search needs
 
 element-copy-out-bits : tie.Need-element-copy-out-bits
 element-copy-out-bits c = search needs
-
-cast-bits : tie.Need-cast-bits
-cast-bits c = search needs
 
 shr-bits : tie.Need-shr-bits
 shr-bits c = search needs
@@ -25,4 +19,4 @@ unfolding metIn
 returns c = refl
 
 pub met-spec : {M : Type 1} → statement M
-met-spec = tie.close (tie.spec cast-i mul-bits element-copy-out-bits cast-bits shr-bits returns)
+met-spec = tie.close (tie.spec mul-bits element-copy-out-bits shr-bits returns)

@@ -2,53 +2,70 @@
 -- is the number of queues left. Assumes nothing.
 use borrow.Author.Needs.{needs}
 use borrow.Author.Tests.{not-false}
-use Prim.Native.Nat.{ℕ, _-_, _≤_}
+use denote.Ref.{now}
+use Prim.Native.Nat.{ℕ, _-_, _/_, _≤_, _<_}
 use native.Mathlib.Omega.{arith}
 use mathlib.Core.Path.{refl, sym, _∙_}
 use mathlib.Core.List.{List}
+use lib.ListN.{length, getD}
 use Rattle.sound.specs.Walk.{Met}
-use Rattle.sound.proofs.Queues.{Passed, laid-small, laid-records, laid-within, heading-tail, passed-none, passed-all, passed-odd, passed-broken, passed-on}
+use Rattle.sound.proofs.Steps.{head-within, holder-within}
+use Rattle.sound.proofs.Queues.{Passed, heading-tail, passed-none, passed-all, passed-odd, passed-broken, passed-on}
 use Rattle.sound.proofs.rings.Statement.{statement}
 use Rattle.sound.proofs.rings.Tie as tie
 
 abbrev Inv-loop : tie.InvT-loop
-Inv-loop area records processes kind from number count marks₀ found₀ i₀ marks found i =
-    (i ≤ number) × ((js : List ℕ) → Met processes marks₀ js count → Passed area processes kind i marks found js)
+Inv-loop heads records processes kind number count marks₀ found₀ i₀ marks found i =
+    (i ≤ number) × ((js : List ℕ) → Met processes marks₀ js count → Passed heads records processes kind i marks found js)
 
 abbrev μ-loop : tie.MeasureT-loop
-μ-loop area records processes kind from number count marks₀ found₀ i₀ marks found i = number - i
+μ-loop heads records processes kind number count marks₀ found₀ i₀ marks found i = number - i
 
 loop-holds : tie.Need-loop-holds Inv-loop μ-loop
-loop-holds c = (omega arith, λ js T. passed-none _ _ _ _ _ js T)
+loop-holds c = (omega arith, λ js T. passed-none _ _ _ _ _ _ js T)
 
 head-at-requires : tie.Need-head-at-requires Inv-loop μ-loop
-head-at-requires c κs = omega (arith, laid-small (c .before .before .before .pre))
+head-at-requires c κs = search needs
+
+-- a queue's words are among those lent
+within : (c : tie.After-head-at Inv-loop μ-loop) → c .head-at .result < length (now (c .before .before .before .before .before .args .heads))
+within c = head-within _ _ _ _ _ (c .head-at .ensures) (c .before .loop-test .taken) (c .before .before .before .before .before .pre .3)
 
 mul-w : tie.Need-mul-w Inv-loop μ-loop
-mul-w c = omega (arith, laid-within (c .before .before .before .before .pre) _ _ (c .before .loop-test .taken) (c .head-at .ensures))
+mul-w c = omega (arith, within c)
 
 shared-slice-read-w : tie.Need-shared-slice-read-w Inv-loop μ-loop
-shared-slice-read-w c = omega (arith, laid-within (c .before .before .before .before .before .pre) _ _ (c .before .before .loop-test .taken) (c .before .head-at .ensures))
+shared-slice-read-w c = within (c .before)
 
 holder-word-requires : tie.Need-holder-word-requires Inv-loop μ-loop
-holder-word-requires c κs = laid-within (c .before .before .before .before .before .pre) _ _ (c .before .before .loop-test .taken) (c .before .head-at .ensures)
+holder-word-requires c κs = holder-within _ _ _ _ _ (c .before .head-at .ensures) (c .before .before .loop-test .taken) (c .before .before .before .before .before .before .pre .3)
 
-heads-requires : tie.Need-heads-requires Inv-loop μ-loop
-heads-requires c κs = search needs
+in-order-requires : tie.Need-in-order-requires Inv-loop μ-loop
+in-order-requires c κs = search needs
 
 returns : tie.Need-returns Inv-loop μ-loop
 returns c = λ js T.
     let l = c .before .before .before .before .before .before in
-    passed-odd (l .before .before .pre) _ _ _ _ (c .before .before .before .before .head-at .ensures) refl (c .before .before .holder-word .ensures) (c .before .before .before .before .before .loop-test .taken) _ _ js (l .loop .inv .1 js T) _ (c .before .heads .ensures) _ (c .if1 .taken)
+    passed-odd _ _ _ _ _ _ _ _ (c .before .before .before .before .head-at .ensures) refl (c .before .before .holder-word .ensures) _ (c .before .before .before .before .before .loop-test .taken) _ _ js (l .loop .inv .1 js T) _ (c .before .in-order .ensures) _ (c .if1 .taken)
+
+-- past the test the tail is one of 0 to P
+tail-small : (c : tie.Else1 Inv-loop μ-loop) → getD (now (c .before .before .before .before .before .before .before .before .before .args .heads)) (c .before .before .before .before .head-at .result) 0 / 8 ≤ c .before .before .before .before .before .before .before .before .before .args .processes
+tail-small c = heading-tail _ _ _ _ (sym (c .before .in-order .ensures) ∙ not-false _ (c .if1 .left))
+
+cast-walk : tie.Need-cast-walk Inv-loop μ-loop
+cast-walk c = search needs
+
+cast-walk-2 : tie.Need-cast-walk-2 Inv-loop μ-loop
+cast-walk-2 c = omega (arith, tail-small c)
 
 walk-requires : tie.Need-walk-requires Inv-loop μ-loop
-walk-requires c κs = omega (arith, laid-records (c .before .before .before .before .before .before .before .before .before .pre), heading-tail _ _ _ _ (sym (c .before .before .heads .ensures) ∙ not-false _ (c .before .if1 .left)))
+walk-requires c κs = omega (arith, tail-small (c .before))
 
 returns-2 : tie.Need-returns-2 Inv-loop μ-loop
 returns-2 c = λ js T.
     let i1 = c .before .before .before in
     let l = i1 .before .before .before .before .before .before in
-    passed-broken (l .before .before .pre) _ _ _ _ (i1 .before .before .before .before .head-at .ensures) refl (i1 .before .before .holder-word .ensures) (i1 .before .before .before .before .before .loop-test .taken) _ _ js (l .loop .inv .1 js T) _ (i1 .before .heads .ensures) (i1 .if1 .left) _ _ (c .before .walk .ensures) _ (c .if2 .taken)
+    passed-broken _ _ _ _ _ _ _ _ (i1 .before .before .before .before .head-at .ensures) refl (i1 .before .before .holder-word .ensures) _ (i1 .before .before .before .before .before .loop-test .taken) _ _ js (l .loop .inv .1 js T) _ (i1 .before .in-order .ensures) (i1 .if1 .left) _ _ (c .before .walk .ensures) _ (l .before .before .before .pre .0) (c .if2 .taken)
 
 add-i : tie.Need-add-i Inv-loop μ-loop
 add-i c = omega arith
@@ -62,11 +79,11 @@ loop-again c = (
   λ js T.
       let i1 = c .before .before .before in
       let l = i1 .before .before .before .before .before .before in
-      passed-on (l .before .before .pre) _ _ _ _ (i1 .before .before .before .before .head-at .ensures) refl (i1 .before .before .holder-word .ensures) (i1 .before .before .before .before .before .loop-test .taken) _ _ js (l .loop .inv .1 js T) _ (i1 .before .heads .ensures) (i1 .if1 .left) _ _ (c .before .walk .ensures) (c .if2 .left),
+      passed-on _ _ _ _ _ _ _ _ (i1 .before .before .before .before .head-at .ensures) refl (i1 .before .before .holder-word .ensures) _ (i1 .before .before .before .before .before .loop-test .taken) _ _ js (l .loop .inv .1 js T) _ (i1 .before .in-order .ensures) (i1 .if1 .left) _ _ (c .before .walk .ensures) (c .if2 .left),
 )
 
 returns-3 : tie.Need-returns-3 Inv-loop μ-loop
-returns-3 c = λ js T. passed-all _ _ _ _ _ _ _ js (c .before .loop .inv .1 js T) (c .before .loop .inv .0) (c .loop-test .left)
+returns-3 c = λ js T. passed-all _ _ _ _ _ _ _ _ js (c .before .loop .inv .1 js T) (c .before .loop .inv .0) (c .loop-test .left)
 
 pub rings-spec : {M : Type 1} → statement M
 rings-spec =
@@ -79,8 +96,10 @@ rings-spec =
     mul-w
     shared-slice-read-w
     holder-word-requires
-    heads-requires
+    in-order-requires
     returns
+    cast-walk
+    cast-walk-2
     walk-requires
     returns-2
     add-i

@@ -29,9 +29,6 @@ sub-last c = search needs
 mul-last : tie.Need-mul-last
 mul-last c = search needs
 
-add-last : tie.Need-add-last
-add-last c = search needs
-
 mul-next-field : tie.Need-mul-next-field
 mul-next-field c = search needs
 
@@ -61,9 +58,6 @@ sub-at c = search needs
 
 mul-at : tie.Need-mul-at
 mul-at c = search needs
-
-add-at : tie.Need-add-at
-add-at c = search needs
 
 mul-failed : tie.Need-mul-failed
 mul-failed c = search needs
@@ -101,7 +95,6 @@ runs-spec =
     cast-last
     sub-last
     mul-last
-    add-last
     mul-next-field
     shared-slice-read-next-field
     next-field-requires
@@ -112,7 +105,6 @@ runs-spec =
     cast-at
     sub-at
     mul-at
-    add-at
     mul-failed
     shared-slice-read-failed
     returns-7

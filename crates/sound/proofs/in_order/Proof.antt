@@ -1,7 +1,7 @@
--- `sound::heads` meets its contract: one test after the other, as `heading` has them. Assumes nothing.
+-- `sound::in_order` meets its contract: one test after the other, as `heading` has them. Assumes nothing.
 use Rattle.sound.proofs.Steps.{head-tail, head-holder, head-unnamed, head-held, head-wakeup, head-plain}
-use Rattle.sound.proofs.heads.Statement.{statement}
-use Rattle.sound.proofs.heads.Tie as tie
+use Rattle.sound.proofs.in_order.Statement.{statement}
+use Rattle.sound.proofs.in_order.Tie as tie
 
 returns : tie.Need-returns
 returns c = head-tail _ _ _ _ (c .if1 .taken)
@@ -24,5 +24,5 @@ returns-6 c = head-plain _ _ _ _ (c .before .before .before .before .before .if1
 returns-7 : tie.Need-returns-7
 returns-7 c = head-plain _ _ _ _ (c .before .before .before .before .if1 .left) (c .before .before .before .if2 .left) (c .before .before .if3 .left) (c .before .if4 .left) (λ a b. c .if5 .left a)
 
-pub heads-spec : {M : Type 1} → statement M
-heads-spec = tie.close (tie.spec returns returns-2 returns-3 returns-4 returns-5 returns-6 returns-7)
+pub in-order-spec : {M : Type 1} → statement M
+in-order-spec = tie.close (tie.spec returns returns-2 returns-3 returns-4 returns-5 returns-6 returns-7)
