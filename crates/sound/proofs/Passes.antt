@@ -1,5 +1,5 @@
 -- A sound area passes: each clause of its soundness gives what one part of the check asks for. Assumes nothing.
-use Prim.Native.Nat.{ℕ, zero, suc, _+_, _-_, _/_, _%_, _≤_}
+use Prim.Native.Nat.{ℕ, _/_, _%_, _≤_}
 use native.Mathlib.Omega.{arith}
 use mathlib.Core.Path.{_≡_, refl, sym, _∙_, ap, subst}
 use mathlib.Core.Bool.{Bool, true, false, not, cond, true≢false}
@@ -27,7 +27,7 @@ use Rattle.area.specs.Sound.{Sound}
 use Rattle.area.proofs.Whole.{Counts, counts-in}
 use Rattle.area.proofs.Rings.{last-member, ring-ext, member-inside}
 use Rattle.area.proofs.States.{Words, chain-read}
-use Rattle.sound.specs.Walk.{recordAt, linkIn, nextIn}
+use Rattle.sound.specs.Walk.{linkIn, nextIn}
 use Rattle.sound.specs.Parts.{Counted, Runs}
 use Rattle.sound.proofs.Queues.{kindOf, tailWord, holderWord}
 use Rattle.sound.proofs.Tests.{Fits, Headed}

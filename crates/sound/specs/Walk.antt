@@ -1,5 +1,6 @@
 -- The check as a function on the words, with the tests that the code has, in its order: of a record, of a ring, of a queue, of the queues of a kind.
--- What a check hands on are the processes met, the last one first; none where a test fails. Assumes nothing.
+-- What a check hands on are the processes met, the last one first; none where a test fails. A kind of queues is a number: 0 ready and the parks,
+-- 1 the locks, 2 the conditions. Assumes nothing.
 use Prim.Native.Nat.{ℕ, zero, suc, _+_, _-_, _*_, _/_, _%_, _≤_}
 use mathlib.Core.Path.{_≡_}
 use mathlib.Core.Bool.{Bool, true, not, _&&_, cond}
@@ -57,15 +58,15 @@ heading P k w v =
     leb (w / 8) P && (leb (v / 8) P && (eqb (v % 8) 0
     && cond (eqb v 0) (cond (eqb k 2 && eqb w 1) true (eqb (w % 8) 0)) (eqb (w % 8) 1)))
 
--- where the words of queue i of kind k stand, from 0, among the words hs of the kind: a lock has two
+-- where the words of queue i of kind k, from 0, stand among the words of the kind: a lock has two
 unfoldable pub headAt : ℕ → ℕ → ℕ
 headAt k i = cond (eqb k 1) (i * 2) i
 
--- the holder's word of a queue whose words stand at a, 0 where it has none
+-- the holder's word of a queue of kind k whose words stand at a of hs, 0 where it has none
 unfoldable pub holderIn : List ℕ → ℕ → ℕ → ℕ
 holderIn hs k a = cond (eqb k 1) (getD hs (a + 1) 0) 0
 
--- a queue whose words stand at a: its words, and then its ring
+-- a queue of kind k whose words stand at a: its words in hs, and then its ring in the records rs
 unfoldable pub queued : List ℕ → List ℕ → ℕ → ℕ → ℕ → List ℕ → Option (List ℕ)
 queued hs rs P k a js =
     cond (heading P k (getD hs a 0) (holderIn hs k a))
@@ -76,7 +77,7 @@ abbrev pub then : Option (List ℕ) → (List ℕ → Option (List ℕ)) → Opt
 then none f = none
 then (some js) f = f js
 
--- the first m queues, in their order
+-- the first m queues of kind k, in their order
 unfoldable pub passed : List ℕ → List ℕ → ℕ → ℕ → ℕ → List ℕ → Option (List ℕ)
 passed hs rs P k zero js = some js
 passed hs rs P k (suc m) js = then (passed hs rs P k m js) (queued hs rs P k (headAt k m))
