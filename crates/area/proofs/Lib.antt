@@ -7,4 +7,5 @@ pub mod Puts
 pub mod Records
 pub mod Relinks
 pub mod Fields
+pub mod Tries
 pub mod Moves

@@ -69,32 +69,31 @@ rings-stored {n} {old} {new} {t} {qs} u R st same-tail same-next = record {
         let g = length-drop (recordsAt n) new in
         omega arith
 
-module _ {n : Shape} {ws : List ℕ} {at-from at-to p waits : ℕ} (m : Moves n ws at-from at-to p waits) (v : ℕ) (ranked : v < 8) where
+module _ {n : Shape} {ws : List ℕ} {at-from at-to p waits : ℕ} (m : Moves n ws at-from at-to p waits) where
+  pub move-waits : waits < 2
+  move-waits = let b = bit-small (isCondition (m .to)) in let e = m .waits-there in omega arith
+
+  abbrev pub move-leaves : Leaves n ws at-from p
+  move-leaves = record {
+    parts = laid n (m .state);
+    queues = m .state .queues;
+    queue = m .from;
+    rings = rings-of (m .holds);
+    given = m .given-from;
+    here = m .here-from;
+    stood = m .stood;
+    stands = m .stands;
+  }
+
+-- ---- p leaves
+
+module _ {n : Shape} {ws : List ℕ} {at-from at-to p waits : ℕ} (m : Moves n ws at-from at-to p waits) (v : ℕ) (ranked : v < 8) (stands : m .stood ≡ true) where
   abbrev s : State model
   s = m .state
 
   -- the state after the move
   abbrev s′ : State model
   s′ = sent p (m .to) (with (priority p) v (m .state))
-
-  pub move-process : inside (n .processes) p ≡ true
-  move-process = member-inside n s (m .holds .placed) p (m .from) (m .stands)
-
-  pub move-waits : waits < 2
-  move-waits = let b = bit-small (isCondition (m .to)) in let e = m .waits-there in omega arith
-
-  -- ---- p leaves
-
-  abbrev pub move-leaves : Leaves n ws at-from p
-  move-leaves = record {
-    parts = laid n s;
-    queues = s .queues;
-    queue = m .from;
-    rings = rings-of (m .holds);
-    given = m .given-from;
-    here = m .here-from;
-    stands = m .stands;
-  }
 
   -- then it stands in no queue
   abbrev without : Queue → List ℕ
@@ -104,7 +103,7 @@ module _ {n : Shape} {ws : List ℕ} {at-from at-to p waits : ℕ} (m : Moves n 
   without-is q = go (same-case (m .from) q)
     where
       elsewhere : m .from ≢ q → count p (s .queues q) ≡ 0
-      elsewhere d = absent-count p (s .queues q) (denied (member p (s .queues q)) (λ k. d (one-queue n s (m .holds .placed) p (m .from) q (m .stands) k)))
+      elsewhere d = absent-count p (s .queues q) (denied (member p (s .queues q)) (λ k. d (one-queue n s (m .holds .placed) p (m .from) q (m .stands ∙ stands) k)))
 
       go : SameCase (m .from) q → without q ≡ remove p (s .queues q)
       go (holds e z) = rw z (ap {A = Queue} (λ o. remove p (s .queues o)) e)
@@ -145,7 +144,7 @@ module _ {n : Shape} {ws : List ℕ} {at-from at-to p waits : ℕ} (m : Moves n 
       rings = rings-stored t₂ (L .rings) stored₂ (λ q. refl) (λ x. refl);
       given = m .given-to;
       here = m .here-to;
-      process = move-process;
+      process = m .process;
       out = without-out;
       falls = rw (ranks-are, without-is (m .to)) (falling-remove (priorities (s .fields)) (priorities (s′ .fields)) p (s .queues (m .to)) off (m .holds .placed .falls (m .to)));
     }
@@ -169,12 +168,12 @@ module _ {n : Shape} {ws : List ℕ} {at-from at-to p waits : ℕ} (m : Moves n 
         range = λ f. range-at f (put-case (priority p) f);
         place = places.sent (m .holds .placed .place) (p, m .to);
         real = λ x h. real-at x h (eqb-case p x);
-        once = stands-move (n .processes) (priorities (s′ .fields)) (p, m .to) (s .queues) (m .holds .placed .place) (m .holds .placed .once) move-process;
+        once = stands-move (n .processes) (priorities (s′ .fields)) (p, m .to) (s .queues) (m .holds .placed .place) (m .holds .placed .once) (m .process);
         falls = falling-moves (priorities (s .fields)) (priorities (s′ .fields)) ((p, m .to) ∷ []) (s .queues) (lead off) (m .holds .placed .falls);
       }
         where
           range-at : (f : Field) → PutCase (priority p) f → put (priority p) v (s .fields) f < room n f
-          range-at f (holds e z) = rw (z, ← e, move-process) ranked
+          range-at f (holds e z) = rw (z, ← e, m .process) ranked
           range-at f (fails e z) = rw z (m .holds .placed .range f)
 
           real-at : (x : ℕ) → inside (n .processes) x ≡ true → EqCase p x → exists n (places.sent (m .holds .placed .place) (p, m .to) x) ≡ true
@@ -192,7 +191,7 @@ module _ {n : Shape} {ws : List ℕ} {at-from at-to p waits : ℕ} (m : Moves n 
       waits-are x h c = J .others (waiting x) refl ∙ go c ∙ ap bit (sym (waiting-is n (s′ .queues) (placed′ .place) (placed′ .once) x (placed′ .real x)))
         where
           go : EqCase p x → t₂ (waiting x) ≡ bit (inside (n .processes) x && isCondition (places.sent (m .holds .placed .place) (p, m .to) x))
-          go (holds e z) = rw (z, ← e, move-process) (alter-here (waiting p) waits (alter (kept (priority p)) v (L .parts)) ∙ m .waits-there)
+          go (holds e z) = rw (z, ← e, m .process) (alter-here (waiting p) waits (alter (kept (priority p)) v (L .parts)) ∙ m .waits-there)
           go (fails e z) =
               rw z (alter-away (waiting p) (waiting x) waits (alter (kept (priority p)) v (L .parts)) (λ d. e (cc)) ∙ L .others (waiting x) refl
               ∙ ap bit (waiting-is n (s .queues) (m .holds .placed .place) (m .holds .placed .once) x (m .holds .placed .real x)))
@@ -221,9 +220,7 @@ put-own f s = fun-ext (λ g. go g (put-case f g))
 
 module _ {n : Shape} {ws : List ℕ} {at-from at-to p waits : ℕ} (m : Moves n ws at-from at-to p waits) (v : ℕ) (own : v ≡ m .state .fields (priority p)) where
   pub own-rank : v < 8
-  own-rank =
-      let r : m .state .fields (priority p) < 8 = rw (member-inside n (m .state) (m .holds .placed) p (m .from) (m .stands)) at (m .holds .placed .range (priority p)) in
-      omega arith
+  own-rank = let r : m .state .fields (priority p) < 8 = rw (m .process) at (m .holds .placed .range (priority p)) in omega arith
 
   pub sent-own : {new : List ℕ} → Becomes n ws new (sent p (m .to) (with (priority p) v (m .state))) → Becomes n ws new (sent p (m .to) (m .state))
   sent-own {new} b =

@@ -146,18 +146,18 @@ module _ {n : Shape} {ws : List ℕ} {i p : ℕ} (j : Leaves n ws i p) (a w : �
   pub leaves-ring : Ring (midOf a (length ws - a) ws) w (j .queues (j .queue))
   leaves-ring = rw (part-lent a ws, at-records, leaves-tail) (j .rings .rings (j .queue) (j .given))
 
-  pub left-relinks : (r : List ℕ) (u v : ℕ) → Left (midOf a (length ws - a) ws) r w p u (j .queues (j .queue)) → v ≡ relink (getD ws i 0) u
+  pub left-relinks : member p (j .queues (j .queue)) ≡ true → (r : List ℕ) (u v : ℕ) → Left (midOf a (length ws - a) ws) r w p u (j .queues (j .queue)) → v ≡ relink (getD ws i 0) u
       → Relinked n ws (set (putMid a (length ws - a) ws r) i v) (j .parts) (j .queues) (j .queue) (remove p (j .queues (j .queue)))
-  left-relinks r u v l e =
+  left-relinks stands r u v l e =
       rw (part-back a ws r, at-records)
       (relink-ring n ws (j .parts) (j .queues) (j .queue) (j .rings) (j .given) p (remove p xs) r xs u i v
-      (j .rings .own (j .queue) p (j .stands))
-      (λ o m. j .rings .one (j .queue) o p (j .stands) m)
+      (j .rings .own (j .queue) p stands)
+      (λ o m. j .rings .one (j .queue) o p stands m)
       (λ x m h. stays x xs m h)
       (λ x m. j .rings .own (j .queue) x m)
-      (subst (λ (z : List ℕ). Kept z r xs) lent (left-kept p xs leaves-ring (j .stands) l))
+      (subst (λ (z : List ℕ). Kept z r xs) lent (left-kept p xs leaves-ring stands l))
       (l .ring)
-      (λ o h d. left-ring p xs leaves-ring (j .stands) l (last (j .queues o)) (j .queues o) (apart o d) (subst (λ (z : List ℕ). Ring z (last (j .queues o)) (j .queues o)) (sym lent) (j .rings .rings o h)))
+      (λ o h d. left-ring p xs leaves-ring stands l (last (j .queues o)) (j .queues o) (apart o d) (subst (λ (z : List ℕ). Ring z (last (j .queues o)) (j .queues o)) (sym lent) (j .rings .rings o h)))
       (ring-tail-small (remove p xs) (l .ring)) (j .here) e)
     where
       xs : List ℕ

@@ -1,11 +1,11 @@
 -- What the functions of this crate promise: an area that holds a state becomes one that holds another. Assumes nothing.
 use Prim.Native.Nat.{ℕ}
 use mathlib.Core.Path.{_≡_}
-use mathlib.Core.Bool.{true}
+use mathlib.Core.Bool.{Bool, true, false}
 use mathlib.Core.List.{List}
 use lib.ListN.{drop}
 use Rattle.model.specs.declared.Shape.{Shape}
-use Rattle.model.specs.Queue.{Queue, bit, exists, member, move}
+use Rattle.model.specs.Queue.{Queue, bit, inside, exists, member, move}
 use Rattle.model.specs.Queue.Queue.{ready}
 use Rattle.model.specs.Field.{Field, Fields, put, priorities}
 use Rattle.model.specs.Machine.{State, model, dispatch}
@@ -29,6 +29,12 @@ pub record Becomes (n : Shape) (old new : List ℕ) (s : State model) : Type 0 w
   pub holds : Holds n new s
   pub beyond : drop (size n) new ≡ drop (size n) old
 
+-- a try that succeeds where b: r says whether it did; A holds if it did, and no word has changed if it did not
+pub record Tried (b r : Bool) (old new : List ℕ) (A : Type 0) : Type 0 where
+  pub told : r ≡ b
+  pub done : b ≡ true → A
+  pub kept : b ≡ false → new ≡ old
+
 -- the state with one field changed
 abbrev pub with : Field → ℕ → State model → State model
 with f v s = record { fields = put f v (s .fields); queues = s .queues }
@@ -41,7 +47,7 @@ sent p q s = record { fields = s .fields; queues = move (priorities (s .fields))
 abbrev pub dispatched : State model → State model
 dispatched s = record { fields = dispatch (s .queues ready) (s .fields); queues = s .queues }
 
--- p stands in one queue of a state and is to move to another, whose tails stand at these places; waits is its waiting bit there
+-- p is to move from one queue of a state, where it stands or not, to another, whose tails stand at these places; waits is its waiting bit there
 pub record Moves (n : Shape) (ws : List ℕ) (at-from at-to p waits : ℕ) : Type 0 where
   pub state : State model
   pub from : Queue
@@ -51,5 +57,7 @@ pub record Moves (n : Shape) (ws : List ℕ) (at-from at-to p waits : ℕ) : Typ
   pub given-to : exists n to ≡ true
   pub here-from : at-from ≡ at n (Tail from)
   pub here-to : at-to ≡ at n (Tail to)
-  pub stands : member p (state .queues from) ≡ true
+  pub process : inside (n .processes) p ≡ true
+  pub stood : Bool
+  pub stands : member p (state .queues from) ≡ stood
   pub waits-there : waits ≡ bit (isCondition to)

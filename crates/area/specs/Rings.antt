@@ -48,7 +48,7 @@ pub record Relinked (n : Shape) (old new : List ℕ) (t : Parts) (qs : Queue →
   pub others : (f : Part) → isRing f ≡ false → parts f ≡ t f
   pub rings : Rings n new parts (swap qs q xs)
 
--- p stands in the ring whose tail stands at i
+-- p is to leave the ring whose tail stands at i, where it stands or not
 pub record Leaves (n : Shape) (ws : List ℕ) (i p : ℕ) : Type 0 where
   pub parts : Parts
   pub queues : Queue → List ℕ
@@ -56,7 +56,8 @@ pub record Leaves (n : Shape) (ws : List ℕ) (i p : ℕ) : Type 0 where
   pub rings : Rings n ws parts queues
   pub given : exists n queue ≡ true
   pub here : i ≡ at n (Tail queue)
-  pub stands : member p (queues queue) ≡ true
+  pub stood : Bool
+  pub stands : member p (queues queue) ≡ stood
 
 -- p stands in no ring, and is to join the one whose tail stands at i
 pub record Joins (n : Shape) (ws : List ℕ) (i p : ℕ) : Type 0 where

@@ -1,12 +1,12 @@
 // The area of words: where each word stands, single reads and writes, and the move of a process between two queues. Assumes nothing.
 use model::Shape;
 ghost use mathlib.Core.Path.{_≡_};
-ghost use mathlib.Core.Bool.{true, false};
+ghost use mathlib.Core.Bool.{true};
 ghost use mathlib.Core.List.{List, _++_};
 ghost use Prim.Native.Nat.{ℕ, _+_, _*_, _/_, _%_, _<_, _≤_};
 ghost use lib.ListN.{length, drop};
 ghost use Rattle.model.specs.declared.Shape.{Shape};
-ghost use Rattle.model.specs.Queue.{Queue, inside, exists, bit, member, remove, insert, first};
+ghost use Rattle.model.specs.Queue.{Queue, inside, exists, bit, remove, insert, first};
 ghost use Rattle.model.specs.Queue.Queue.{ready, park, lock, condition};
 ghost use Rattle.model.specs.Field.{some};
 ghost use Rattle.model.specs.Field.Field.{clock, running, priority, timer, failed, holder, wakeup};
@@ -17,7 +17,7 @@ ghost use Rattle.area.specs.Layout.{Parts, at, recordsAt, size, alter, I
 ghost use Rattle.area.specs.Layout.Part.{kept, waiting};
 ghost use Rattle.area.specs.Layout.Slot.{Tail, Link};
 ghost use Rattle.area.specs.Reading.{shapeOf};
-ghost use Rattle.area.specs.Holds.{Holds, Held, Becomes, Moves, with, sent, dispatched};
+ghost use Rattle.area.specs.Holds.{Holds, Held, Becomes, Tried, Moves, with, sent, dispatched};
 ghost use Rattle.area.specs.Rings.{Rings, Leaves, Joins, Relinked, ranks};
 
 // Words before the parks, and the words of a lock and of a record.
@@ -170,17 +170,6 @@ pub fn first_in(area: &[u16], shape: Shape, i: usize) -> u16
     ring::first_of(&area[at..], tail)
 }
 
-// Whether p stands in the queue whose tail stands at i.
-pub fn stands_in(area: &[u16], shape: Shape, i: usize, p: u16) -> bool
-    requires { ⌜ Held shape (now area) ⌝ }
-    requires { ⌜ ((q : Queue) × (exists shape q ≡ true) × (i ≡ at shape (Tail q))) ⌝ }
-    ensures { λ r. ⌜ ((s : State model) (q : Queue) → Holds shape (now (area .entry)) s → exists shape q ≡ true → i ≡ at shape (Tail q) → r ≡ member p (s .queues q)) ⌝ }
-{
-    let at = records_at(shape);
-    let tail = ring::next_field(area[i]);
-    ring::has(&area[at..], tail, p)
-}
-
 // How many processes the queue whose tail stands at i has.
 pub fn count_in(area: &[u16], shape: Shape, i: usize) -> u16
     requires { ⌜ Held shape (now area) ⌝ }
@@ -301,15 +290,21 @@ pub fn set_failed(area: &mut [u16], shape: Shape, p: u16, value: u16)
 
 // ---- moves
 
-// p leaves the ring whose tail stands at i.
-pub fn take_out(area: &mut [u16], shape: Shape, i: usize, p: u16)
+// p leaves the ring whose tail stands at i, if it stands there. Whether it does.
+pub fn take_out(area: &mut [u16], shape: Shape, i: usize, p: u16) -> bool
     requires { ⌜ Leaves shape (now area) i p ⌝ }
-    ensures { λ _. ⌜ ((j : Leaves shape (now (area .entry)) i p) → Relinked shape (now (area .entry)) (now (area .exit)) (j .parts) (j .queues) (j .queue) (remove p (j .queues (j .queue)))) ⌝ }
+    ensures { λ r. ⌜ ((j : Leaves shape (now (area .entry)) i p) → Tried (j .stood) r (now (area .entry)) (now (area .exit)) (Relinked shape (now (area .entry)) (now (area .exit)) (j .parts) (j .queues) (j .queue) (remove p (j .queues (j .queue))))) ⌝ }
 {
     let at = records_at(shape);
     let word = area[i];
-    let tail = ring::leave(&mut area[at..], ring::next_field(word), p);
-    area[i] = ring::with_next(word, tail);
+    let tail = ring::next_field(word);
+    let prev = ring::before(&area[at..], tail, p);
+    if prev == 0 {
+        return false;
+    }
+    let new = ring::leave(&mut area[at..], tail, prev, p);
+    area[i] = ring::with_next(word, new);
+    true
 }
 
 // p, which stands in no ring, joins the one whose tail stands at i.
@@ -336,7 +331,7 @@ fn set_rank(area: &mut [u16], shape: Shape, p: u16, v: u16, waits: u16)
     area[i + 1] = waits * 2;
 }
 
-// p moves from the queue whose tail stands at `from` to the one whose tail stands at `to`, with the priority v; waits is 1 if that is a condition.
+// p moves from the queue whose tail stands at `from`, if it stands there, to the one whose tail stands at `to`, with the priority v; waits is 1 if that is a condition. Whether it does.
 pub fn move_process(
     area: &mut [u16],
     shape: Shape,
@@ -345,23 +340,26 @@ pub fn move_process(
     p: u16,
     v: u16,
     waits: u16,
-)
+) -> bool
     requires { ⌜ Moves shape (now area) from to p waits ⌝ }
     requires { ⌜ v < 8 ⌝ }
-    ensures { λ _. ⌜ ((m : Moves shape (now (area .entry)) from to p waits) → Becomes shape (now (area .entry)) (now (area .exit)) (sent p (m .to) (with (priority p) v (m .state)))) ⌝ }
+    ensures { λ r. ⌜ ((m : Moves shape (now (area .entry)) from to p waits) → Tried (m .stood) r (now (area .entry)) (now (area .exit)) (Becomes shape (now (area .entry)) (now (area .exit)) (sent p (m .to) (with (priority p) v (m .state))))) ⌝ }
 {
-    take_out(area, shape, from, p);
+    if !take_out(area, shape, from, p) {
+        return false;
+    }
     set_rank(area, shape, p, v, waits);
     put_in(area, shape, to, p);
+    true
 }
 
 // The same with the priority that p has.
-pub fn send(area: &mut [u16], shape: Shape, from: usize, to: usize, p: u16, waits: u16)
+pub fn send(area: &mut [u16], shape: Shape, from: usize, to: usize, p: u16, waits: u16) -> bool
     requires { ⌜ Moves shape (now area) from to p waits ⌝ }
-    ensures { λ _. ⌜ ((m : Moves shape (now (area .entry)) from to p waits) → Becomes shape (now (area .entry)) (now (area .exit)) (sent p (m .to) (m .state))) ⌝ }
+    ensures { λ r. ⌜ ((m : Moves shape (now (area .entry)) from to p waits) → Tried (m .stood) r (now (area .entry)) (now (area .exit)) (Becomes shape (now (area .entry)) (now (area .exit)) (sent p (m .to) (m .state)))) ⌝ }
 {
     let v = priority_of(area, shape, p);
-    move_process(area, shape, from, to, p, v, waits);
+    move_process(area, shape, from, to, p, v, waits)
 }
 
 // ---- dispatch

@@ -59,6 +59,9 @@ first-stands xs e h = rw e (first-member xs (λ z. h (e ∙ z)))
 pub first-there : {n : Shape} {ws : List ℕ} {s : State model} → Holds n ws s → (q : Queue) {f : ℕ} → f ≡ first (s .queues q) → f ≢ 0 → member f (s .queues q) ≡ true
 first-there {s = s} H q e h = first-stands (s .queues q) e h
 
+pub first-inside : {n : Shape} {ws : List ℕ} {s : State model} → Holds n ws s → (q : Queue) {f : ℕ} → f ≡ first (s .queues q) → f ≢ 0 → inside (n .processes) f ≡ true
+first-inside {n} {s = s} H q {f} e h = member-inside n s (H .placed) f q (first-there H q e h)
+
 -- ---- lengths
 
 -- no words come and none go

@@ -23,6 +23,7 @@ use Rattle.area.specs.Layout.Slot.{Tail}
 use Rattle.area.specs.Holds.{Holds, Becomes, Moves}
 use Rattle.calls.specs.Parts.{Gives, Does, changed}
 use Rattle.calls.proofs.Numbers.{is-outside, is-inside, not-outside}
+use Rattle.calls.proofs.Shared.{trying}
 use Rattle.calls.proofs.Outcomes.{unless-yes, unless-no, refuses, accepts}
 
 -- ---- ready and the parks
@@ -47,10 +48,9 @@ no-condition k = go (eqb-case k 0)
     go (holds e z) = rw z
     go (fails e z) = rw z
 
--- a move from one of them to another
-abbrev pub between : {n : Shape} {ws : List ℕ} {s : State model} {from to p : ℕ} (a b : ℕ) → Holds n ws s → a ≤ n .parks → b ≤ n .parks → from ≡ at n (Tail (readyOrPark a)) → to ≡ at n (Tail (readyOrPark b)) → member p (s .queues (readyOrPark a)) ≡ true → Moves n ws from to p 0
-between {n} {s = s} a b H x y here there m =
-    record { state = s; from = readyOrPark a; to = readyOrPark b; holds = H; given-from = given n a x; given-to = given n b y; here-from = here; here-to = there; stands = m; waits-there = no-condition b }
+-- a process on its way from one of them to another, where it may stand
+abbrev pub between : {n : Shape} {ws : List ℕ} {s : State model} {from to p : ℕ} (a b : ℕ) → Holds n ws s → a ≤ n .parks → b ≤ n .parks → from ≡ at n (Tail (readyOrPark a)) → to ≡ at n (Tail (readyOrPark b)) → p ≢ 0 → p ≤ n .processes → Moves n ws from to p 0
+between {n} {p = p} a b H x y here there z w = trying H (readyOrPark a) (readyOrPark b) (given n a x) (given n b y) here there (is-inside (n .processes) p z w) (no-condition b)
 
 -- ---- who arrives
 
@@ -94,9 +94,9 @@ module _ {n : Shape} {old : List ℕ} {s : State model} (H : Holds n old s) (a b
   requeue-none w e = refuses H (Requeue a b p) 7 (unless-yes 7 _ (wrong n a b (p .0) w)) e
 
   module _ (x : a ≤ n .parks) (y : b ≤ n .parks) (z : p .0 ≢ 0) (w : p .0 ≤ n .processes) where
-    pub requeue-absent : member (p .0) (s .queues (readyOrPark a)) ≡ false → r ≡ refusal 10 → Does (Requeue a b p) n old old s r
+    pub requeue-absent : {new : List ℕ} → new ≡ old → member (p .0) (s .queues (readyOrPark a)) ≡ false → r ≡ refusal 10 → Does (Requeue a b p) n old new s r
     unfolding decide
-    requeue-absent m e = refuses H (Requeue a b p) 10 (unless-no 7 _ (right n a b (p .0) x y z w) ∙ unless-yes 10 _ (ap not m)) e
+    requeue-absent same m e = rw same (refuses H (Requeue a b p) 10 (unless-no 7 _ (right n a b (p .0) x y z w) ∙ unless-yes 10 _ (ap not m)) e)
 
     pub requeue-moves : {came : ℕ} {mid new : List ℕ} → member (p .0) (s .queues (readyOrPark a)) ≡ true → came ≡ arrivals (s .queues ready) ((p .0, readyOrPark b) ∷ [])
         → Becomes n old mid (changed (s .fields) ((p .0, readyOrPark b) ∷ []) s)

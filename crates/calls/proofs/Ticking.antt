@@ -3,7 +3,7 @@
 use Prim.Native.Nat.{ℕ, zero, suc, _+_, _-_, _%_, _≤_}
 use native.Mathlib.Omega.{arith}
 use native.Mathlib.Numerals.{add-one}
-use mathlib.Core.Path.{_≡_, refl, sym, ap, _∙_}
+use mathlib.Core.Path.{_≡_, refl, sym, ap, _∙_, subst}
 use mathlib.Core.Bool.{Bool, true, false, not, _&&_, _||_, cond, and-false, false≢true}
 use mathlib.Core.Logic.{_≢_}
 use mathlib.Core.List.{List, [], _∷_, _++_}
@@ -13,7 +13,7 @@ use Rattle.model.specs.declared.Shape.{Shape}
 use Rattle.model.specs.declared.Answer.{Answer}
 use Rattle.model.specs.declared.Call.the-variants.{Tick}
 use Rattle.model.specs.Queue.{Queue, inside, upTo, anyOf, member, filter, toReady}
-use Rattle.model.specs.Queue.Queue.{ready}
+use Rattle.model.specs.Queue.Queue.{ready, condition}
 use Rattle.model.specs.Field.{Fields, put, some, priorities}
 use Rattle.model.specs.Field.Field.{clock, timer}
 use Rattle.model.specs.Rules.{calm, due, decide}
@@ -25,6 +25,7 @@ use Rattle.model.proofs.Places.{sent, relocate, Movers, stands-moves, waiting-i
 use Rattle.model.proofs.Loops.{later-timer, due-waits, due-moved}
 use Rattle.area.specs.Holds.{Holds, Becomes, with}
 use Rattle.area.proofs.Puts.{becomes-none, becomes-then}
+use Rattle.area.proofs.Rings.{member-inside}
 use Rattle.calls.specs.Parts.{Gives, Does}
 use Rattle.calls.proofs.Outcomes.{accepts}
 use Rattle.calls.proofs.Waking.{woken, woken-snoc}
@@ -36,6 +37,15 @@ module _ (t : ℕ → Bool) where
   pub any-some : (n : ℕ) → anyOf n t ≡ true → 1 ≤ n
   any-some zero e = absurd (false≢true e)
   any-some (suc n) e = omega arith
+
+  -- it is true of one
+  pub any-where : (n : ℕ) → anyOf n t ≡ true → (c : ℕ) × (t c ≡ true)
+  any-where zero e = absurd (false≢true e)
+  any-where (suc n) e = go (t (suc n)) refl (λ k. any-where n k)
+    where
+      go : (b : Bool) → t (suc n) ≡ b → (anyOf n t ≡ true → (c : ℕ) × (t c ≡ true)) → (c : ℕ) × (t c ≡ true)
+      go true h ih = (suc n, h)
+      go false h ih = ih (rw h at e)
 
   -- none before c and not c
   pub any-next : (c : ℕ) → 1 ≤ c → t c ≡ false → anyOf (c - 1) t ≡ false → anyOf (c + 1 - 1) t ≡ false
@@ -57,6 +67,17 @@ module _ (t : ℕ → Bool) where
       last : (b : Bool) → b || false ≡ true → b ≡ true
       last true e = refl
       last false e = absurd (false≢true e)
+
+-- who waits in a condition is a process
+pub sleeper : {n : Shape} {ws : List ℕ} {s : State model} → Holds n ws s → (p : ℕ) → waiting n (s .queues) p ≡ true → inside (n .processes) p ≡ true
+sleeper {n} {s = s} H p w = let k = any-where (λ c. member p (s .queues (condition c))) (n .conditions) w in member-inside n s (H .placed) p (condition (k .0)) (k .1)
+
+-- no word has changed
+pub held-still : {n : Shape} {old now : List ℕ} {s : State model} → now ≡ old → Holds n old s → Holds n now s
+held-still {n} {s = s} e H = subst (λ (ws : List ℕ). Holds n ws s) (sym e) H
+
+pub becomes-still : {n : Shape} {old now new : List ℕ} {s : State model} → now ≡ old → Becomes n now new s → Becomes n old new s
+becomes-still {n} {new = new} {s} e b = subst (λ (ws : List ℕ). Becomes n ws new s) e b
 
 -- ---- those who ring
 

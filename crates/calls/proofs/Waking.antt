@@ -87,11 +87,6 @@ module _ {n : Shape} {old : List ℕ} {s : State model} (H : Holds n old s) (c :
   one-arrives : {f : ℕ} → f ≡ first (s .queues (condition c)) → f ≢ 0 → 1 ≡ arrivals (s .queues ready) ((f, ready) ∷ [])
   one-arrives e h = sym (rw (first-only (s .queues (condition c)) e h) at (first-moved (n .processes) (s .queues) (H .placed .place) (H .placed .once) (condition c) (apart c)))
 
--- a move from a queue of a state to ready
-abbrev pub to-ready : {n : Shape} {ws : List ℕ} {s : State model} {from to p : ℕ} (q : Queue) → Holds n ws s → exists n q ≡ true → from ≡ at n (Tail q) → to ≡ at n (Tail ready) → member p (s .queues q) ≡ true → Moves n ws from to p 0
-to-ready {s = s} q H given here there m =
-    record { state = s; from = q; to = ready; holds = H; given-from = given; given-to = refl; here-from = here; here-to = there; stands = m; waits-there = refl }
-
 -- ---- the calls
 
 module _ {n : Shape} {old : List ℕ} {s : State model} (H : Holds n old s) (c : ℕ) {r : ℕ} (runs : r ≡ s .fields running) {a : Answer} where

@@ -5,34 +5,36 @@ use model::Answer;
 use model::Shape;
 ghost use mathlib.Core.Path.{_≡_};
 ghost use mathlib.Core.Bool.{true};
-ghost use Prim.Native.Nat.{ℕ};
+ghost use mathlib.Core.List.{[], _∷_};
 ghost use lib.ListN.{length};
 ghost use Rattle.model.specs.declared.Call.the-variants.{Tick};
-ghost use Rattle.model.specs.Queue.{Queue, inside, member, toReady};
+ghost use Rattle.model.specs.Queue.{toReady};
+ghost use Rattle.model.specs.Queue.Queue.{ready};
+ghost use Rattle.model.specs.Field.{put};
+ghost use Rattle.model.specs.Field.Field.{timer};
 ghost use Rattle.model.specs.Rules.{calm, due};
 ghost use Rattle.model.specs.Machine as machine;
 ghost use Rattle.model.specs.Machine.{State, model};
 ghost use Rattle.model.specs.Valid.{Valid};
-ghost use Rattle.area.specs.Layout.{at};
-ghost use Rattle.area.specs.Layout.Slot.{Tail};
 ghost use Rattle.area.specs.Holds.{Holds, Becomes};
 ghost use Rattle.calls.specs.Parts.{Stands, Does, changed};
 
-// Where the tail of the condition stands in which p waits.
-fn condition_of(area: &[u16], shape: Shape, p: u16) -> usize
+// p wakes, from whichever condition it waits in.
+fn rouse(area: &mut [u16], shape: Shape, p: u16)
     requires { ⌜ ((s : State model) × Holds shape (now area) s × (machine.waiting shape (s .queues) p ≡ true)) ⌝ }
-    ensures { λ r. ⌜ ((s : State model) → Holds shape (now (area .entry)) s → machine.waiting shape (s .queues) p ≡ true → ((c : ℕ) × (inside (shape .conditions) c ≡ true) × (r ≡ at shape (Tail (Queue.condition c))) × (member p (s .queues (Queue.condition c)) ≡ true))) ⌝ }
+    ensures { λ _. ⌜ ((s : State model) → Holds shape (now (area .entry)) s → machine.waiting shape (s .queues) p ≡ true → Becomes shape (now (area .entry)) (now (area .exit)) (changed (put (timer p) 0 (s .fields)) ((p, ready) ∷ []) s)) ⌝ }
 {
     let conditions = shape.conditions;
     let mut c: u16 = 1;
     while c < conditions {
-        let at = area::condition_at(shape, c);
-        if area::stands_in(area, shape, at, p) {
-            return at;
+        let from = area::condition_at(shape, c);
+        if wakes::wake(area, shape, from, p) {
+            return;
         }
         c += 1;
     }
-    area::condition_at(shape, c)
+    let last = area::condition_at(shape, c);
+    wakes::wake(area, shape, last, p);
 }
 
 // Each process whose timer rings now wakes, in process order. The answer is how many.
@@ -49,8 +51,7 @@ fn wake_due(area: &mut [u16], shape: Shape, time: u16) -> u16
     while p < processes {
         p += 1;
         if area::timer_of(area, shape, p) == time {
-            let from = condition_of(area, shape, p);
-            wakes::wake(area, shape, from, p);
+            rouse(area, shape, p);
             moved += 1;
         }
     }

@@ -55,10 +55,9 @@ pub fn requeue(
         return answers::refusal(7);
     }
     let from = area::park_at(source);
-    if !area::stands_in(area, shape, from, p) {
+    let to = area::park_at(destination);
+    if !area::send(area, shape, from, to, p, 0) {
         return answers::refusal(10);
     }
-    let to = area::park_at(destination);
-    area::send(area, shape, from, to, p, 0);
     answers::finish(area, shape, 0, arrives(source, destination))
 }

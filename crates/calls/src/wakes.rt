@@ -17,17 +17,20 @@ ghost use Rattle.model.specs.Machine.{State, model};
 ghost use Rattle.model.specs.Valid.{Valid};
 ghost use Rattle.area.specs.Layout.{at};
 ghost use Rattle.area.specs.Layout.Slot.{Tail};
-ghost use Rattle.area.specs.Holds.{Holds, Held, Becomes};
+ghost use Rattle.area.specs.Holds.{Holds, Held, Becomes, Tried};
 ghost use Rattle.calls.specs.Parts.{Stands, Does, changed};
 
-// p wakes: its timer is 0, and it moves to ready from the condition whose tail stands at from.
-pub fn wake(area: &mut [u16], shape: Shape, from: usize, p: u16)
-    requires { ⌜ ((s : State model) × (q : Queue) × Holds shape (now area) s × (exists shape q ≡ true) × (from ≡ at shape (Tail q)) × (member p (s .queues q) ≡ true)) ⌝ }
-    ensures { λ _. ⌜ ((s : State model) (q : Queue) → Holds shape (now (area .entry)) s → exists shape q ≡ true → from ≡ at shape (Tail q) → member p (s .queues q) ≡ true → Becomes shape (now (area .entry)) (now (area .exit)) (changed (put (timer p) 0 (s .fields)) ((p, ready) ∷ []) s)) ⌝ }
+// p wakes, if it stands in the condition whose tail stands at from: it moves to ready, and its timer is 0. Whether it does.
+pub fn wake(area: &mut [u16], shape: Shape, from: usize, p: u16) -> bool
+    requires { ⌜ ((s : State model) × (q : Queue) × Holds shape (now area) s × (exists shape q ≡ true) × (from ≡ at shape (Tail q)) × (inside (shape .processes) p ≡ true)) ⌝ }
+    ensures { λ r. ⌜ ((s : State model) (q : Queue) → Holds shape (now (area .entry)) s → exists shape q ≡ true → from ≡ at shape (Tail q) → Tried (member p (s .queues q)) r (now (area .entry)) (now (area .exit)) (Becomes shape (now (area .entry)) (now (area .exit)) (changed (put (timer p) 0 (s .fields)) ((p, ready) ∷ []) s))) ⌝ }
 {
-    area::set_timer(area, shape, p, 0);
     let to = area::ready_at();
-    area::send(area, shape, from, to, p, 0);
+    if !area::send(area, shape, from, to, p, 0) {
+        return false;
+    }
+    area::set_timer(area, shape, p, 0);
+    true
 }
 
 pub fn notify(area: &mut [u16], shape: Shape, condition: u16) -> Answer

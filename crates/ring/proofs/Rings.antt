@@ -1,17 +1,18 @@
 -- The laws of a ring. The sources of its links are its own processes, each once, so a cut of the ring before p says all that a change there needs; and the reading ends at the first return to the tail, so it is unique. Assumes nothing.
 use mathlib.Core.Path.{_≡_, refl, sym, ap, _∙_, subst}
 use mathlib.Core.Logic.{_≢_}
-use mathlib.Core.Bool.{Bool, true, false, false≢true}
+use mathlib.Core.Bool.{Bool, true, false, not, cond, false≢true}
 use mathlib.Core.List.{List, [], _∷_, _++_}
 use Prim.Native.Nat.{ℕ, _≤_, _<_}
 use native.Mathlib.Decide.{ℕ-discrete}
 use native.Mathlib.Omega.{arith}
+use lib.Dec.{eqb}
 use lib.ListN.{length}
 use Rattle.model.specs.Queue.{bit, inside, member, count, first, All}
-use Rattle.model.proofs.Tests.{bounds-inside}
+use Rattle.model.proofs.Tests.{bounds-inside, denied}
 use Rattle.model.proofs.Lists.{absent-count, member-count, at-most, all-map}
 use Rattle.ring.specs.Link.{Stands, next, point}
-use Rattle.ring.specs.Ring.{lastOf, Linked, Ring, takeWhile}
+use Rattle.ring.specs.Ring.{lastOf, Linked, Ring, takeWhile, aheadOf}
 use Rattle.ring.proofs.Links.{point-length, point-next-other}
 use Rattle.ring.proofs.Lists.{Fresh, Distinct, init, all-left, all-right, all-last, all-init, all-zip, all-members, members-all, member-last, distinct-once, once-distinct, mid-fresh, rotated, lastOf-append, init-append}
 use Rattle.ring.proofs.Places.{all-take}
@@ -105,6 +106,22 @@ ring-member p (x ∷ xs) R m e = ring-some x xs R e
 -- what holds of every process holds of whom one follows
 pub follows-all : (P : ℕ → Type 0) {r : List ℕ} {tail : ℕ} (t : ℕ → Bool) (xs : List ℕ) → Ring r tail xs → tail ≢ 0 → All P xs → P (lastOf tail (takeWhile t xs))
 follows-all P {tail} t xs R h a = all-last P tail (takeWhile t xs) (members-all P xs a tail (ring-tail-member xs R h)) (all-take P t xs a)
+
+-- whom p follows, if it is there: some process
+pub before-none : {r : List ℕ} {tail : ℕ} (p : ℕ) (xs : List ℕ) {q : ℕ} → Ring r tail xs → q ≡ cond (member p xs) (lastOf tail (aheadOf p xs)) 0 → q ≡ 0 → member p xs ≡ false
+before-none {r} {tail} p xs R e z =
+    denied (member p xs) (λ m.
+    let q = lastOf tail (aheadOf p xs) in
+    let k : q ≡ 0 = sym (e ∙ rw m refl) ∙ z in
+    let S : Stands r q = follows-all (Stands r) (λ x. not (eqb x p)) xs R (ring-member p xs R m) (ring-stand R) in
+    omega (arith, S .low))
+
+pub before-some : (tail p : ℕ) (xs : List ℕ) {q : ℕ} → q ≡ cond (member p xs) (lastOf tail (aheadOf p xs)) 0 → q ≢ 0 → (member p xs ≡ true) × (q ≡ lastOf tail (aheadOf p xs))
+before-some tail p xs {q} e z = go (member p xs) refl
+  where
+    go : (b : Bool) → member p xs ≡ b → (member p xs ≡ true) × (q ≡ lastOf tail (aheadOf p xs))
+    go true m = (m, e ∙ rw m refl)
+    go false m = absurd (z (e ∙ rw m refl))
 
 pub ring-first : {r : List ℕ} {tail : ℕ} (xs : List ℕ) → Ring r tail xs → tail ≢ 0 → next r tail ≡ first xs
 ring-first [] R h = absurd (h (sym (R .ends)))

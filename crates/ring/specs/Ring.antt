@@ -4,9 +4,7 @@ use mathlib.Core.Bool.{Bool, true, not, cond}
 use mathlib.Core.List.{List, [], _∷_}
 use Prim.Native.Nat.{ℕ, zero, suc, _≤_}
 use lib.Dec.{eqb, leb}
-use lib.ListN.{length}
 use Rattle.model.specs.Queue.{member, count, remove, insert}
-use Rattle.ring.specs.declared.Spot.{Spot}
 use Rattle.ring.specs.Link.{Stands, next, priority, point, wedge}
 
 -- ---- rings
@@ -42,11 +40,6 @@ aheadOf p xs = takeWhile (λ x. not (eqb x p)) xs
 -- the processes ahead of p once it has joined: those before the first that is lower than p
 abbrev pub aheadFor : (ℕ → ℕ) → ℕ → List ℕ → List ℕ
 aheadFor pr p xs = takeWhile (λ x. leb (pr p) (pr x)) xs
-
--- s is the place in the ring of tail that has the processes us ahead
-pub record At (s : Spot) (tail : ℕ) (us : List ℕ) : Type 0 where
-  pub follows : s .prev ≡ lastOf tail us
-  pub counts : s .ahead ≡ length us
 
 -- ---- moves
 

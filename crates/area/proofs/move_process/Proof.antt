@@ -1,24 +1,57 @@
 -- `area::move_process` meets its contract: leaving, the priority with the waiting bit, and joining make the move. Assumes nothing.
 use borrow.Author.Needs.{needs}
-use Rattle.area.proofs.Moves.{move-process, move-waits, move-leaves, move-joins, moved}
+use borrow.Author.Tests.{not-false, not-true}
+use mathlib.Core.Path.{refl, sym, _∙_}
+use Rattle.area.proofs.Tries.{did, did-not}
+use Rattle.area.proofs.Moves.{move-waits, move-leaves, move-joins, moved}
 use Rattle.area.proofs.move_process.Statement.{statement}
 use Rattle.area.proofs.move_process.Tie as tie
 
 take-out-requires : tie.Need-take-out-requires
-take-out-requires c κs = let g = c .before .before .pre in move-leaves (g .0) _ (g .1)
-
-set-rank-requires : tie.Need-set-rank-requires
-set-rank-requires c κs = let g = c .before .before .before .before .before .before .pre in ((_, (c .before .before .before .take-out .ensures (move-leaves (g .0) _ (g .1))) .rings .image), (move-process (g .0) _ (g .1), (g .1, move-waits (g .0) _ (g .1))))
-
-put-in-requires : tie.Need-put-in-requires
-put-in-requires c κs = let g = c .before .before .before .before .before .before .before .before .before .before .pre in move-joins (g .0) _ (g .1) {ws₁ = c .before .before .before .before .before .before .before .take-out .last .0} {ws₂ = c .before .before .before .set-rank .last .0} (c .before .before .before .before .before .before .before .take-out .ensures (move-leaves (g .0) _ (g .1))) (c .before .before .before .set-rank .ensures)
+take-out-requires c κs = move-leaves (c .before .before .pre .0)
 
 same-length : tie.Need-same-length
 same-length c = search needs
 
 returns : tie.Need-returns
-returns c = λ m. let h = (c .before .before .before .before .before .before .before .before .before .before .before .before .before .pre) .1 in moved m _ h {ws₁ = c .before .before .before .before .before .before .before .before .before .before .take-out .last .0} {ws₂ = c .before .before .before .before .before .before .set-rank .last .0} (c .before .before .before .before .before .before .before .before .before .before .take-out .ensures (move-leaves m _ h)) (c .before .before .before .before .before .before .set-rank .ensures) {ws₃ = c .before .before .put-in .last .0} (c .before .before .put-in .ensures (move-joins m _ h {ws₁ = c .before .before .before .before .before .before .before .before .before .before .take-out .last .0} {ws₂ = c .before .before .before .before .before .before .set-rank .last .0} (c .before .before .before .before .before .before .before .before .before .before .take-out .ensures (move-leaves m _ h)) (c .before .before .before .before .before .before .set-rank .ensures)))
+returns c m =
+    let t = c .before .before .before .take-out .ensures (move-leaves m) in
+    let no = sym (t .told) ∙ not-true (c .before .before .before .take-out .result) (c .if1 .taken) in
+    did-not no (t .kept no)
+
+set-rank-requires : tie.Need-set-rank-requires
+set-rank-requires c κs =
+    let m = c .before .before .before .before .before .before .before .pre .0 in
+    let t = c .before .before .before .before .take-out .ensures (move-leaves m) in
+    let L = t .done (sym (t .told) ∙ not-false (c .before .before .before .before .take-out .result) (c .before .if1 .left)) in
+    ((_, L .rings .image), (m .process, (c .before .before .before .before .before .before .before .pre .1, move-waits m)))
+
+put-in-requires : tie.Need-put-in-requires
+put-in-requires c κs =
+    let m = c .before .before .before .before .before .before .before .before .before .before .before .pre .0 in
+    let t = c .before .before .before .before .before .before .before .before .take-out .ensures (move-leaves m) in
+    let yes = sym (t .told) ∙ not-false (c .before .before .before .before .before .before .before .before .take-out .result) (c .before .before .before .before .before .if1 .left) in
+    move-joins m _ (c .before .before .before .before .before .before .before .before .before .before .before .pre .1) yes {ws₁ = c .before .before .before .before .before .before .before .before .take-out .last .0} {ws₂ = c .before .before .before .set-rank .last .0} (t .done yes) (c .before .before .before .set-rank .ensures)
+
+same-length-2 : tie.Need-same-length-2
+same-length-2 c = search needs
+
+returns-2 : tie.Need-returns-2
+returns-2 c m =
+    let t = c .before .before .before .before .before .before .before .before .before .before .before .take-out .ensures (move-leaves m) in
+    let yes = sym (t .told) ∙ not-false (c .before .before .before .before .before .before .before .before .before .before .before .take-out .result) (c .before .before .before .before .before .before .before .before .if1 .left) in
+    did yes
+    (moved m _ (c .before .before .before .before .before .before .before .before .before .before .before .before .before .before .pre .1) yes {ws₁ = c .before .before .before .before .before .before .before .before .before .before .before .take-out .last .0} {ws₂ = c .before .before .before .before .before .before .set-rank .last .0} (t .done yes) (c .before .before .before .before .before .before .set-rank .ensures) {ws₃ = c .before .before .put-in .last .0}
+    (c .before .before .put-in .ensures (move-joins m _ (c .before .before .before .before .before .before .before .before .before .before .before .before .before .before .pre .1) yes {ws₁ = c .before .before .before .before .before .before .before .before .before .before .before .take-out .last .0} {ws₂ = c .before .before .before .before .before .before .set-rank .last .0} (t .done yes) (c .before .before .before .before .before .before .set-rank .ensures))))
 
 pub move-process-spec : {M : Type 1} → statement M
 move-process-spec =
-    tie.close (tie.spec take-out-requires set-rank-requires put-in-requires same-length returns)
+    tie.close
+    (tie.spec
+    take-out-requires
+    same-length
+    returns
+    set-rank-requires
+    put-in-requires
+    same-length-2
+    returns-2)

@@ -1,12 +1,11 @@
 -- `area::send` meets its contract: a move with the priority that the process has changes no field. Assumes nothing.
 use borrow.Author.Needs.{needs}
-use Rattle.area.proofs.Rings.{member-inside}
 use Rattle.area.proofs.Moves.{own-rank, sent-own}
 use Rattle.area.proofs.send.Statement.{statement}
 use Rattle.area.proofs.send.Tie as tie
 
 priority-of-requires : tie.Need-priority-of-requires
-priority-of-requires c κs = let m = c .before .before .pre in ((m .state, m .holds), member-inside _ (m .state) (m .holds .placed) _ (m .from) (m .stands))
+priority-of-requires c κs = let m = c .before .before .pre in ((m .state, m .holds), m .process)
 
 move-process-requires : tie.Need-move-process-requires
 move-process-requires c κs = let m = c .before .before .before .before .pre in (m, own-rank m _ (c .before .priority-of .ensures (m .state) (m .holds)))
@@ -15,7 +14,9 @@ same-length : tie.Need-same-length
 same-length c = search needs
 
 returns : tie.Need-returns
-returns c = λ m. sent-own m _ (c .before .before .before .before .priority-of .ensures (m .state) (m .holds)) (c .before .before .move-process .ensures m)
+returns c m =
+    let t = c .before .before .move-process .ensures m in
+    record { told = t .told; done = λ e. sent-own m _ (c .before .before .before .before .priority-of .ensures (m .state) (m .holds)) (t .done e); kept = t .kept }
 
 pub send-spec : {M : Type 1} → statement M
 send-spec = tie.close (tie.spec priority-of-requires move-process-requires same-length returns)

@@ -1,11 +1,9 @@
 -- `area::take_out` meets its contract: the records are lent to the rings, and what comes back changes one ring. Assumes nothing.
-use native.Mathlib.Omega.{arith}
-use mathlib.Core.Path.{_≡_, refl, ap, _∙_}
-use Prim.Native.Nat.{_<_, _/_, _%_}
-use lib.ListN.{length, getD}
+use mathlib.Core.Path.{_≡_, refl, sym, _∙_}
 use borrow.Author.Needs.{needs}
+use Rattle.ring.proofs.Rings.{before-none, before-some, ring-tail-small}
 use Rattle.area.proofs.Relinks.{tail-below, tail-again, leaves-ring, left-relinks}
-use Rattle.ring.proofs.Rings.{ring-tail-small}
+use Rattle.area.proofs.Tries.{did, did-not}
 use Rattle.area.proofs.take_out.Statement.{statement}
 use Rattle.area.proofs.take_out.Tie as tie
 
@@ -17,6 +15,30 @@ mul-word c = let j = c .before .before .pre in let h = tail-below (j .queue) (j 
 
 slice-read-word : tie.Need-slice-read-word
 slice-read-word c = let j = c .before .before .before .pre in tail-below (j .queue) (j .rings) (j .given) (j .here)
+
+next-field-requires : tie.Need-next-field-requires
+next-field-requires c κs = search needs
+
+mul-before : tie.Need-mul-before
+mul-before c = search needs
+
+sub-before : tie.Need-sub-before
+sub-before c = search needs
+
+part-before-start : tie.Need-part-before-start
+part-before-start c = search needs
+
+part-before-end : tie.Need-part-before-end
+part-before-end c = search needs
+
+before-requires : tie.Need-before-requires
+before-requires c κs = let j = c .before .before .before .before .before .before .pre in (_, leaves-ring j _ _ (c .before .before .before .before .records-at .ensures) (c .before .before .next-field .ensures))
+
+same-length : tie.Need-same-length
+same-length c = search needs
+
+returns : tie.Need-returns
+returns c j = did-not (sym (j .stands) ∙ before-none _ _ (leaves-ring j _ _ (c .before .before .before .before .before .before .records-at .ensures) (c .before .before .before .before .next-field .ensures)) (c .before .before2 .ensures _ (leaves-ring j _ _ (c .before .before .before .before .before .before .records-at .ensures) (c .before .before .before .before .next-field .ensures))) (c .if1 .taken)) refl
 
 mul-leave : tie.Need-mul-leave
 mul-leave c = search needs
@@ -30,26 +52,35 @@ part-leave-start c = search needs
 part-leave-end : tie.Need-part-leave-end
 part-leave-end c = search needs
 
-next-field-requires : tie.Need-next-field-requires
-next-field-requires c κs = search needs
-
 leave-requires : tie.Need-leave-requires
-leave-requires c κs = let j = c .before .before .before .before .before .pre in (_, leaves-ring j (c .before .before .before .records-at .result) (c .next-field .result) (c .before .before .before .records-at .ensures) (c .next-field .ensures), j .stands)
+leave-requires c κs =
+    let j = c .before .before .before .before .before .before .before .before .before .pre in
+    let R = leaves-ring j _ _ (c .before .before .before .before .before .before .before .records-at .ensures) (c .before .before .before .before .before .next-field .ensures) in
+    let b = before-some (c .before .before .before .before .before .next-field .result) (c .before .before .before .before .before .before .before .before .before .args .p) (j .queues (j .queue)) (c .before .before .before2 .ensures _ R) (c .before .if1 .left) in
+    (_, R, b .0, b .1)
 
 with-next-requires : tie.Need-with-next-requires
-with-next-requires c κs = let j = c .before .before .before .before .before .before .before .before .pre in let l = c .before .before .leave .ensures _ (leaves-ring j (c .before .before .before .before .before .before .records-at .result) (c .before .before .before .next-field .result) (c .before .before .before .before .before .before .records-at .ensures) (c .before .before .before .next-field .ensures)) (j .stands) in ring-tail-small _ (l .ring)
+with-next-requires c κs =
+    let j = c .before .before .before .before .before .before .before .before .before .before .before .before .pre in
+    let R = leaves-ring j _ _ (c .before .before .before .before .before .before .before .before .before .before .records-at .ensures) (c .before .before .before .before .before .before .before .before .next-field .ensures) in
+    let b = before-some (c .before .before .before .before .before .before .before .before .next-field .result) (c .before .before .before .before .before .before .before .before .before .before .before .before .args .p) (j .queues (j .queue)) (c .before .before .before .before .before .before2 .ensures _ R) (c .before .before .before .before .if1 .left) in
+    ring-tail-small _ (c .before .before .leave .ensures _ R (b .0) (b .1) .ring)
 
 mul-area : tie.Need-mul-area
-mul-area c = let j = c .before .before .before .before .before .before .before .before .before .pre in let h = tail-again (j .queue) (c .before .before .before .before .before .before .before .records-at .result) (c .before .before .before .leave .last .0) (j .rings) (j .given) (j .here) (c .before .before .before .before .before .before .before .records-at .ensures) in search needs
+mul-area c = let j = c .before .before .before .before .before .before .before .before .before .before .before .before .before .pre in let h = tail-again (j .queue) (c .before .before .before .before .before .before .before .before .before .before .before .records-at .result) (c .before .before .before .leave .last .0) (j .rings) (j .given) (j .here) (c .before .before .before .before .before .before .before .before .before .before .before .records-at .ensures) in search needs
 
 slice-write-area : tie.Need-slice-write-area
-slice-write-area c = let j = c .before .before .before .before .before .before .before .before .before .pre in tail-again (j .queue) (c .before .before .before .before .before .before .before .records-at .result) (c .before .before .before .leave .last .0) (j .rings) (j .given) (j .here) (c .before .before .before .before .before .before .before .records-at .ensures)
+slice-write-area c = let j = c .before .before .before .before .before .before .before .before .before .before .before .before .before .pre in tail-again (j .queue) (c .before .before .before .before .before .before .before .before .before .before .before .records-at .result) (c .before .before .before .leave .last .0) (j .rings) (j .given) (j .here) (c .before .before .before .before .before .before .before .before .before .before .before .records-at .ensures)
 
-same-length : tie.Need-same-length
-same-length c = search needs
+same-length-2 : tie.Need-same-length-2
+same-length-2 c = search needs
 
-returns : tie.Need-returns
-returns c = λ j. left-relinks j (c .before .before .before .before .before .before .before .records-at .result) (c .before .before .before .before .next-field .result) (c .before .before .before .before .before .before .before .records-at .ensures) (c .before .before .before .before .next-field .ensures) (c .before .before .before .leave .last .0) (c .before .before .before .leave .result) (c .with-next .result) (c .before .before .before .leave .ensures _ (leaves-ring j (c .before .before .before .before .before .before .before .records-at .result) (c .before .before .before .before .next-field .result) (c .before .before .before .before .before .before .before .records-at .ensures) (c .before .before .before .before .next-field .ensures)) (j .stands)) (c .with-next .ensures)
+returns-2 : tie.Need-returns-2
+returns-2 c j =
+    let R = leaves-ring j _ _ (c .before .before .before .before .before .before .before .before .before .before .before .records-at .ensures) (c .before .before .before .before .before .before .before .before .before .next-field .ensures) in
+    let b = before-some (c .before .before .before .before .before .before .before .before .before .next-field .result) (c .before .before .before .before .before .before .before .before .before .before .before .before .before .args .p) (j .queues (j .queue)) (c .before .before .before .before .before .before .before2 .ensures _ R) (c .before .before .before .before .before .if1 .left) in
+    did (sym (j .stands) ∙ b .0)
+    (left-relinks j (c .before .before .before .before .before .before .before .before .before .before .before .records-at .result) (c .before .before .before .before .before .before .before .before .before .next-field .result) (c .before .before .before .before .before .before .before .before .before .before .before .records-at .ensures) (c .before .before .before .before .before .before .before .before .before .next-field .ensures) (b .0) (c .before .before .before .leave .last .0) (c .before .before .before .leave .result) (c .with-next .result) (c .before .before .before .leave .ensures _ R (b .0) (b .1)) (c .with-next .ensures))
 
 pub take-out-spec : {M : Type 1} → statement M
 take-out-spec =
@@ -58,14 +89,21 @@ take-out-spec =
     records-at-requires
     mul-word
     slice-read-word
+    next-field-requires
+    mul-before
+    sub-before
+    part-before-start
+    part-before-end
+    before-requires
+    same-length
+    returns
     mul-leave
     sub-leave
     part-leave-start
     part-leave-end
-    next-field-requires
     leave-requires
     with-next-requires
     mul-area
     slice-write-area
-    same-length
-    returns)
+    same-length-2
+    returns-2)

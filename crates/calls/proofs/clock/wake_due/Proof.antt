@@ -3,7 +3,6 @@
 -- processes ahead. Assumes nothing.
 use Prim.Native.Nat.{_+_, _-_, _≤_}
 use native.Mathlib.Omega.{arith}
-use Rattle.model.specs.Queue.Queue.{condition}
 use Rattle.model.specs.Machine.{State, model}
 use Rattle.model.specs.Valid.{Valid}
 use Rattle.model.proofs.Tests.{bounds-inside}
@@ -31,11 +30,13 @@ add-p c = omega arith
 timer-of-requires : tie.Need-timer-of-requires Inv-loop μ-loop
 timer-of-requires c κs = let s = c .before .before .before .before .before .pre .state in let H = c .before .before .before .before .before .pre .holds in let v = c .before .before .before .before .before .pre .valid in let r = c .before .before .loop .inv .2 s H v in ((_, r .becomes .holds), bounds-inside (c .before .before .before .before .before .args .shape .processes) (c .before .before .loop .p + 1) (omega arith) (omega arith))
 
-condition-of-requires : tie.Need-condition-of-requires Inv-loop μ-loop
-condition-of-requires c κs = let s = c .before .before .before .before .before .before .before .before .pre .state in let H = c .before .before .before .before .before .before .before .before .pre .holds in let v = c .before .before .before .before .before .before .before .before .pre .valid in let r = c .before .before .before .before .before .loop .inv .2 s H v in let t = c .before .before .timer-of .ensures _ (r .becomes .holds) in let w = ringing-waits H v r t (c .before .before .before .before .before .before .if1 .left) (c .before .if2 .taken) (omega arith) in (_, r .becomes .holds, w)
-
-wake-requires : tie.Need-wake-requires Inv-loop μ-loop
-wake-requires c κs = let s = c .before .before .before .before .before .before .before .before .before .before .pre .state in let H = c .before .before .before .before .before .before .before .before .before .before .pre .holds in let v = c .before .before .before .before .before .before .before .before .before .before .pre .valid in let r = c .before .before .before .before .before .before .before .loop .inv .2 s H v in let t = c .before .before .before .before .timer-of .ensures _ (r .becomes .holds) in let w = ringing-waits H v r t (c .before .before .before .before .before .before .before .before .if1 .left) (c .before .before .before .if2 .taken) (omega arith) in let k = c .before .condition-of .ensures _ (r .becomes .holds) w in (_, condition (k .0), r .becomes .holds, k .1, k .2, k .3)
+rouse-requires : tie.Need-rouse-requires Inv-loop μ-loop
+rouse-requires c κs =
+    let H = c .before .before .before .before .before .before .before .before .pre .holds in
+    let v = c .before .before .before .before .before .before .before .before .pre .valid in
+    let r = c .before .before .before .before .before .loop .inv .2 _ H v in
+    let t = c .before .before .timer-of .ensures _ (r .becomes .holds) in
+    (_, r .becomes .holds, ringing-waits H v r t (c .before .before .before .before .before .before .if1 .left) (c .before .if2 .taken) (omega arith))
 
 add-moved : tie.Need-add-moved Inv-loop μ-loop
 add-moved c = omega arith
@@ -44,7 +45,14 @@ loop-less : tie.Need-loop-less Inv-loop μ-loop
 loop-less c = omega arith
 
 loop-again : tie.Need-loop-again Inv-loop μ-loop
-loop-again c = (omega arith, omega arith, λ s H v. let r = c .before .before .before .before .before .before .before .before .before .before .loop .inv .2 s H v in let t = c .before .before .before .before .before .before .before .timer-of .ensures _ (r .becomes .holds) in let w = ringing-waits H v r t (c .before .before .before .before .before .before .before .before .before .before .before .if1 .left) (c .before .before .before .before .before .before .if2 .taken) (omega arith) in let k = c .before .before .before .before .condition-of .ensures _ (r .becomes .holds) w in ringing-next H v r t (c .before .before .before .before .before .before .before .before .before .before .before .if1 .left) (c .before .before .before .before .before .before .if2 .taken) (c .before .before .wake .ensures _ (condition (k .0)) (r .becomes .holds) (k .1) (k .2) (k .3)))
+loop-again c = (
+  omega arith,
+  omega arith,
+  λ s H v.
+      let r = c .before .before .before .before .before .before .before .before .loop .inv .2 s H v in
+      let t = c .before .before .before .before .before .timer-of .ensures _ (r .becomes .holds) in
+      ringing-next H v r t (c .before .before .before .before .before .before .before .before .before .if1 .left) (c .before .before .before .before .if2 .taken) (c .before .before .rouse .ensures _ (r .becomes .holds) (ringing-waits H v r t (c .before .before .before .before .before .before .before .before .before .if1 .left) (c .before .before .before .before .if2 .taken) (omega arith))),
+)
 
 loop-less-2 : tie.Need-loop-less-2 Inv-loop μ-loop
 loop-less-2 c = omega arith
@@ -68,8 +76,7 @@ wake-due-spec =
     loop-holds
     add-p
     timer-of-requires
-    condition-of-requires
-    wake-requires
+    rouse-requires
     add-moved
     loop-less
     loop-again

@@ -25,7 +25,7 @@ same-length : tie.Need-same-length
 same-length c = search needs
 
 returns : tie.Need-returns
-returns c = λ s H m. let b = c .before .before .before .before .before .before .before .before .set-failed .ensures s H in becomes-then b (c .before .before .send .ensures (going (b .holds) ready (lock (c .before .before .before .before .before .before .before .before .before .before .before .args .lock)) refl (c .before .before .before .before .before .before .before .before .before .before .before .pre .1) (c .before .before .before .before .before .ready-at .ensures (c .before .before .before .before .before .before .before .before .before .before .before .args .shape)) (c .before .before .before .before .lock-at .ensures) m refl))
+returns c = λ s H m. let b = c .before .before .before .before .before .before .before .before .set-failed .ensures s H in becomes-then b (c .before .before .send .ensures (going (b .holds) ready (lock (c .before .before .before .before .before .before .before .before .before .before .before .args .lock)) refl (c .before .before .before .before .before .before .before .before .before .before .before .pre .1) (c .before .before .before .before .before .ready-at .ensures (c .before .before .before .before .before .before .before .before .before .before .before .args .shape)) (c .before .before .before .before .lock-at .ensures) m refl) .done refl)
 
 pub block-spec : {M : Type 1} → statement M
 block-spec =

@@ -34,7 +34,7 @@ same-length-2 : tie.Need-same-length-2
 same-length-2 c = search needs
 
 returns-2 : tie.Need-returns-2
-returns-2 c = λ s H. let b = c .before .before .before .before .before .before .before .before .set-holder .ensures s H in let e = (c .before .before .before .before .before .before .before .before .before .before .first-in .ensures s (lock (c .before .before .before .before .before .before .before .before .before .before .before .before .before .before .args .lock)) H (c .before .before .before .before .before .before .before .before .before .before .before .before .before .before .pre .1) (c .before .before .before .before .before .before .before .before .before .before .before .before .lock-at .ensures)) in release-first H (c .before .before .before .before .before .before .before .before .before .before .before .before .before .before .args .lock) e (c .before .before .before .before .before .if1 .left) (becomes-then b (c .before .before .send .ensures (going (b .holds) (lock (c .before .before .before .before .before .before .before .before .before .before .before .before .before .before .args .lock)) ready (c .before .before .before .before .before .before .before .before .before .before .before .before .before .before .pre .1) refl (c .before .before .before .before .before .before .before .before .before .before .before .before .lock-at .ensures) (c .before .before .before .before .ready-at .ensures (c .before .before .before .before .before .before .before .before .before .before .before .before .before .before .args .shape)) (first-stands (s .queues (lock (c .before .before .before .before .before .before .before .before .before .before .before .before .before .before .args .lock))) e (c .before .before .before .before .before .if1 .left)) refl)))
+returns-2 c = λ s H. let b = c .before .before .before .before .before .before .before .before .set-holder .ensures s H in let e = (c .before .before .before .before .before .before .before .before .before .before .first-in .ensures s (lock (c .before .before .before .before .before .before .before .before .before .before .before .before .before .before .args .lock)) H (c .before .before .before .before .before .before .before .before .before .before .before .before .before .before .pre .1) (c .before .before .before .before .before .before .before .before .before .before .before .before .lock-at .ensures)) in release-first H (c .before .before .before .before .before .before .before .before .before .before .before .before .before .before .args .lock) e (c .before .before .before .before .before .if1 .left) (becomes-then b (c .before .before .send .ensures (going (b .holds) (lock (c .before .before .before .before .before .before .before .before .before .before .before .before .before .before .args .lock)) ready (c .before .before .before .before .before .before .before .before .before .before .before .before .before .before .pre .1) refl (c .before .before .before .before .before .before .before .before .before .before .before .before .lock-at .ensures) (c .before .before .before .before .ready-at .ensures (c .before .before .before .before .before .before .before .before .before .before .before .before .before .before .args .shape)) (first-stands (s .queues (lock (c .before .before .before .before .before .before .before .before .before .before .before .before .before .before .args .lock))) e (c .before .before .before .before .before .if1 .left)) refl) .done refl))
 
 pub release-spec : {M : Type 1} → statement M
 release-spec =

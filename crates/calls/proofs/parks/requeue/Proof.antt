@@ -1,9 +1,8 @@
 -- `calls::parks::requeue` meets its contract: the process moves from one of ready and the parks to another, by the rule of Requeue. Assumes nothing.
 use mathlib.Core.Path.{sym, _∙_}
 use mathlib.Core.Logic.{inl, inr}
-use Rattle.model.specs.Rules.{readyOrPark}
 use Rattle.model.proofs.Tests.{not-true, not-false}
-use Rattle.calls.proofs.Requeues.{source, destination, process, given, between, not-ready, requeue-none, requeue-absent, requeue-moves}
+use Rattle.calls.proofs.Requeues.{source, destination, process, between, not-ready, requeue-none, requeue-absent, requeue-moves}
 use borrow.Author.Needs.{needs}
 use Rattle.calls.proofs.parks.requeue.Statement.{statement}
 use Rattle.calls.proofs.parks.requeue.Tie as tie
@@ -35,8 +34,11 @@ returns-4 c = λ s H v. requeue-none H _ _ _ (process (inr (c .before .if4 .take
 park-at-requires : tie.Need-park-at-requires
 park-at-requires c κs = search needs
 
-stands-in-requires : tie.Need-stands-in-requires
-stands-in-requires c κs = ((c .before .before .before .before .before .before .before .before .before .before .pre .state, c .before .before .before .before .before .before .before .before .before .before .pre .holds), (readyOrPark (c .before .before .before .before .before .before .before .before .before .before .args .source), given (c .before .before .before .before .before .before .before .before .before .before .args .shape) (c .before .before .before .before .before .before .before .before .before .before .args .source) (c .before .before .before .before .before .before .before .if1 .left), c .before .park-at .ensures (c .before .before .before .before .before .before .before .before .before .before .args .shape)))
+park-at-requires-2 : tie.Need-park-at-requires-2
+park-at-requires-2 c κs = search needs
+
+send-requires : tie.Need-send-requires
+send-requires c κs = between (c .before .before .before .before .before .before .before .before .before .before .before .args .source) (c .before .before .before .before .before .before .before .before .before .before .before .args .destination) (c .before .before .before .before .before .before .before .before .before .before .before .pre .holds) (c .before .before .before .before .before .before .before .before .if1 .left) (c .before .before .before .before .before .before .if2 .left) (c .before .before .park-at .ensures (c .before .before .before .before .before .before .before .before .before .before .before .args .shape)) (c .before .park-at2 .ensures (c .before .before .before .before .before .before .before .before .before .before .before .args .shape)) (c .before .before .before .before .before .if3 .left) (c .before .before .before .if4 .left)
 
 refusal-requires-5 : tie.Need-refusal-requires-5
 refusal-requires-5 c κs = search needs
@@ -45,25 +47,30 @@ same-length : tie.Need-same-length
 same-length c = search needs
 
 returns-5 : tie.Need-returns-5
-returns-5 c = λ s H v. requeue-absent H _ _ _ (c .before .before .before .before .before .before .before .before .before .before .if1 .left) (c .before .before .before .before .before .before .before .before .if2 .left) (c .before .before .before .before .before .before .before .if3 .left) (c .before .before .before .before .before .if4 .left) (sym (c .before .before .stands-in .ensures s (readyOrPark (c .before .before .before .before .before .before .before .before .before .before .before .before .before .args .source)) H (given (c .before .before .before .before .before .before .before .before .before .before .before .before .before .args .shape) (c .before .before .before .before .before .before .before .before .before .before .before .before .before .args .source) (c .before .before .before .before .before .before .before .before .before .before .if1 .left)) (c .before .before .before .before .park-at .ensures (c .before .before .before .before .before .before .before .before .before .before .before .before .before .args .shape))) ∙ not-true (c .before .before .stands-in .result) (c .before .if5 .taken)) (c .refusal5 .ensures)
-
-park-at-requires-2 : tie.Need-park-at-requires-2
-park-at-requires-2 c κs = search needs
-
-send-requires : tie.Need-send-requires
-send-requires c κs = let s = c .before .before .before .before .before .before .before .before .before .before .before .before .before .before .pre .state in let H = c .before .before .before .before .before .before .before .before .before .before .before .before .before .before .pre .holds in let m = sym (c .before .before .before .stands-in .ensures s (readyOrPark (c .before .before .before .before .before .before .before .before .before .before .before .before .before .before .args .source)) H (given (c .before .before .before .before .before .before .before .before .before .before .before .before .before .before .args .shape) (c .before .before .before .before .before .before .before .before .before .before .before .before .before .before .args .source) (c .before .before .before .before .before .before .before .before .before .before .before .if1 .left)) (c .before .before .before .before .before .park-at .ensures (c .before .before .before .before .before .before .before .before .before .before .before .before .before .before .args .shape))) ∙ not-false (c .before .before .before .stands-in .result) (c .before .before .if5 .left) in between (c .before .before .before .before .before .before .before .before .before .before .before .before .before .before .args .source) (c .before .before .before .before .before .before .before .before .before .before .before .before .before .before .args .destination) H (c .before .before .before .before .before .before .before .before .before .before .before .if1 .left) (c .before .before .before .before .before .before .before .before .before .if2 .left) (c .before .before .before .before .before .park-at .ensures (c .before .before .before .before .before .before .before .before .before .before .before .before .before .before .args .shape)) (c .before .park-at2 .ensures (c .before .before .before .before .before .before .before .before .before .before .before .before .before .before .args .shape)) m
+returns-5 c s H v =
+    let t = c .before .before .before .before .send .ensures (between (c .before .before .before .before .before .before .before .before .before .before .before .before .before .before .before .before .args .source) (c .before .before .before .before .before .before .before .before .before .before .before .before .before .before .before .before .args .destination) H (c .before .before .before .before .before .before .before .before .before .before .before .before .before .if1 .left) (c .before .before .before .before .before .before .before .before .before .before .before .if2 .left) (c .before .before .before .before .before .before .before .park-at .ensures (c .before .before .before .before .before .before .before .before .before .before .before .before .before .before .before .before .args .shape)) (c .before .before .before .before .before .before .park-at2 .ensures (c .before .before .before .before .before .before .before .before .before .before .before .before .before .before .before .before .args .shape)) (c .before .before .before .before .before .before .before .before .before .before .if3 .left) (c .before .before .before .before .before .before .before .before .if4 .left)) in
+    let no = sym (t .told) ∙ not-true (c .before .before .before .before .send .result) (c .before .if5 .taken) in
+    requeue-absent H _ _ _ (c .before .before .before .before .before .before .before .before .before .before .before .before .before .if1 .left) (c .before .before .before .before .before .before .before .before .before .before .before .if2 .left) (c .before .before .before .before .before .before .before .before .before .before .if3 .left) (c .before .before .before .before .before .before .before .before .if4 .left) (t .kept no) no (c .refusal5 .ensures)
 
 arrives-requires : tie.Need-arrives-requires
 arrives-requires c κs = search needs
 
 finish-requires : tie.Need-finish-requires
-finish-requires c κs = let s = c .before .before .before .before .before .before .before .before .before .before .before .before .before .before .before .before .before .before .before .pre .state in let H = c .before .before .before .before .before .before .before .before .before .before .before .before .before .before .before .before .before .before .before .pre .holds in let m = sym (c .before .before .before .before .before .before .before .before .stands-in .ensures s (readyOrPark (c .before .before .before .before .before .before .before .before .before .before .before .before .before .before .before .before .before .before .before .args .source)) H (given (c .before .before .before .before .before .before .before .before .before .before .before .before .before .before .before .before .before .before .before .args .shape) (c .before .before .before .before .before .before .before .before .before .before .before .before .before .before .before .before .before .before .before .args .source) (c .before .before .before .before .before .before .before .before .before .before .before .before .before .before .before .before .if1 .left)) (c .before .before .before .before .before .before .before .before .before .before .park-at .ensures (c .before .before .before .before .before .before .before .before .before .before .before .before .before .before .before .before .before .before .before .args .shape))) ∙ not-false (c .before .before .before .before .before .before .before .before .stands-in .result) (c .before .before .before .before .before .before .before .if5 .left) in (_, (c .before .before .before .before .send .ensures (between (c .before .before .before .before .before .before .before .before .before .before .before .before .before .before .before .before .before .before .before .args .source) (c .before .before .before .before .before .before .before .before .before .before .before .before .before .before .before .before .before .before .before .args .destination) H (c .before .before .before .before .before .before .before .before .before .before .before .before .before .before .before .before .if1 .left) (c .before .before .before .before .before .before .before .before .before .before .before .before .before .before .if2 .left) (c .before .before .before .before .before .before .before .before .before .before .park-at .ensures (c .before .before .before .before .before .before .before .before .before .before .before .before .before .before .before .before .before .before .before .args .shape)) (c .before .before .before .before .before .before .park-at2 .ensures (c .before .before .before .before .before .before .before .before .before .before .before .before .before .before .before .before .before .before .before .args .shape)) m) .holds))
+finish-requires c κs =
+    let H = c .before .before .before .before .before .before .before .before .before .before .before .before .before .before .before .before .before .pre .holds in
+    let t = c .before .before .before .before .before .send .ensures (between (c .before .before .before .before .before .before .before .before .before .before .before .before .before .before .before .before .before .args .source) (c .before .before .before .before .before .before .before .before .before .before .before .before .before .before .before .before .before .args .destination) H (c .before .before .before .before .before .before .before .before .before .before .before .before .before .before .if1 .left) (c .before .before .before .before .before .before .before .before .before .before .before .before .if2 .left) (c .before .before .before .before .before .before .before .before .park-at .ensures (c .before .before .before .before .before .before .before .before .before .before .before .before .before .before .before .before .before .args .shape)) (c .before .before .before .before .before .before .before .park-at2 .ensures (c .before .before .before .before .before .before .before .before .before .before .before .before .before .before .before .before .before .args .shape)) (c .before .before .before .before .before .before .before .before .before .before .before .if3 .left) (c .before .before .before .before .before .before .before .before .before .if4 .left)) in
+    (_, t .done (sym (t .told) ∙ not-false (c .before .before .before .before .before .send .result) (c .before .before .if5 .left)) .holds)
 
 same-length-2 : tie.Need-same-length-2
 same-length-2 c = search needs
 
 returns-6 : tie.Need-returns-6
-returns-6 c = λ s H v. let m = sym (c .before .before .before .before .before .before .before .before .before .before .before .stands-in .ensures s (readyOrPark (c .before .before .before .before .before .before .before .before .before .before .before .before .before .before .before .before .before .before .before .before .before .before .args .source)) H (given (c .before .before .before .before .before .before .before .before .before .before .before .before .before .before .before .before .before .before .before .before .before .before .args .shape) (c .before .before .before .before .before .before .before .before .before .before .before .before .before .before .before .before .before .before .before .before .before .before .args .source) (c .before .before .before .before .before .before .before .before .before .before .before .before .before .before .before .before .before .before .before .if1 .left)) (c .before .before .before .before .before .before .before .before .before .before .before .before .before .park-at .ensures (c .before .before .before .before .before .before .before .before .before .before .before .before .before .before .before .before .before .before .before .before .before .before .args .shape))) ∙ not-false (c .before .before .before .before .before .before .before .before .before .before .before .stands-in .result) (c .before .before .before .before .before .before .before .before .before .before .if5 .left) in let b = c .before .before .before .before .before .before .before .send .ensures (between (c .before .before .before .before .before .before .before .before .before .before .before .before .before .before .before .before .before .before .before .before .before .before .args .source) (c .before .before .before .before .before .before .before .before .before .before .before .before .before .before .before .before .before .before .before .before .before .before .args .destination) H (c .before .before .before .before .before .before .before .before .before .before .before .before .before .before .before .before .before .before .before .if1 .left) (c .before .before .before .before .before .before .before .before .before .before .before .before .before .before .before .before .before .if2 .left) (c .before .before .before .before .before .before .before .before .before .before .before .before .before .park-at .ensures (c .before .before .before .before .before .before .before .before .before .before .before .before .before .before .before .before .before .before .before .before .before .before .args .shape)) (c .before .before .before .before .before .before .before .before .before .park-at2 .ensures (c .before .before .before .before .before .before .before .before .before .before .before .before .before .before .before .before .before .before .before .before .before .before .args .shape)) m) in requeue-moves H _ _ _ (c .before .before .before .before .before .before .before .before .before .before .before .before .before .before .before .before .before .before .before .if1 .left) (c .before .before .before .before .before .before .before .before .before .before .before .before .before .before .before .before .before .if2 .left) (c .before .before .before .before .before .before .before .before .before .before .before .before .before .before .before .before .if3 .left) (c .before .before .before .before .before .before .before .before .before .before .before .before .before .before .if4 .left) m (c .before .before .before .arrives .ensures (c .before .before .before .before .before .before .before .before .before .before .before .before .before .before .before .before .before .before .before .before .before .before .args .process .0) (s .queues) m (not-ready H (c .before .before .before .before .before .before .before .before .before .before .before .before .before .before .before .before .before .before .before .before .before .before .args .source) (c .before .before .before .before .before .before .before .before .before .before .before .before .before .before .before .before .before .before .before .before .before .before .args .process .0) m)) b (c .before .before .finish .ensures _ (b .holds))
+returns-6 c s H v =
+    let t = c .before .before .before .before .before .before .before .before .send .ensures (between (c .before .before .before .before .before .before .before .before .before .before .before .before .before .before .before .before .before .before .before .before .args .source) (c .before .before .before .before .before .before .before .before .before .before .before .before .before .before .before .before .before .before .before .before .args .destination) H (c .before .before .before .before .before .before .before .before .before .before .before .before .before .before .before .before .before .if1 .left) (c .before .before .before .before .before .before .before .before .before .before .before .before .before .before .before .if2 .left) (c .before .before .before .before .before .before .before .before .before .before .before .park-at .ensures (c .before .before .before .before .before .before .before .before .before .before .before .before .before .before .before .before .before .before .before .before .args .shape)) (c .before .before .before .before .before .before .before .before .before .before .park-at2 .ensures (c .before .before .before .before .before .before .before .before .before .before .before .before .before .before .before .before .before .before .before .before .args .shape)) (c .before .before .before .before .before .before .before .before .before .before .before .before .before .before .if3 .left) (c .before .before .before .before .before .before .before .before .before .before .before .before .if4 .left)) in
+    let m = sym (t .told) ∙ not-false (c .before .before .before .before .before .before .before .before .send .result) (c .before .before .before .before .before .if5 .left) in
+    let b = t .done m in
+    requeue-moves H _ _ _ (c .before .before .before .before .before .before .before .before .before .before .before .before .before .before .before .before .before .if1 .left) (c .before .before .before .before .before .before .before .before .before .before .before .before .before .before .before .if2 .left) (c .before .before .before .before .before .before .before .before .before .before .before .before .before .before .if3 .left) (c .before .before .before .before .before .before .before .before .before .before .before .before .if4 .left) m
+    (c .before .before .before .arrives .ensures (c .before .before .before .before .before .before .before .before .before .before .before .before .before .before .before .before .before .before .before .before .args .process .0) (s .queues) m (not-ready H (c .before .before .before .before .before .before .before .before .before .before .before .before .before .before .before .before .before .before .before .before .args .source) (c .before .before .before .before .before .before .before .before .before .before .before .before .before .before .before .before .before .before .before .before .args .process .0) m)) b (c .before .before .finish .ensures _ (b .holds))
 
 pub requeue-spec : {M : Type 1} → statement M
 requeue-spec =
@@ -78,12 +85,11 @@ requeue-spec =
     refusal-requires-4
     returns-4
     park-at-requires
-    stands-in-requires
+    park-at-requires-2
+    send-requires
     refusal-requires-5
     same-length
     returns-5
-    park-at-requires-2
-    send-requires
     arrives-requires
     finish-requires
     same-length-2

@@ -38,13 +38,14 @@ move-process-requires : tie.Need-move-process-requires
 move-process-requires c κs = ((going (c .before .before .before .before .before .before .before .pre .holds) ready ready refl refl (c .before .ready-at .ensures (c .before .before .before .before .before .before .before .args .shape)) (c .before .ready-at .ensures (c .before .before .before .before .before .before .before .args .shape)) (runner-stands (c .before .before .before .before .running-of .ensures (c .before .before .before .before .before .before .before .args .shape) (c .before .before .before .before .before .before .before .pre .state) (c .before .before .before .before .before .before .before .pre .holds)) (c .before .before .before .before .before .before .before .pre .valid) (c .before .before .before .if1 .left)) refl), omega (arith, c .before .before .if2 .left))
 
 finish-requires : tie.Need-finish-requires
-finish-requires c κs = (_, c .before .before .before .move-process .ensures (move-process-requires (c .before .before .before .before) κs .0) .holds)
+unfolding move-process-requires
+finish-requires c κs = (_, c .before .before .before .move-process .ensures (move-process-requires (c .before .before .before .before) κs .0) .done refl .holds)
 
 same-length-3 : tie.Need-same-length-3
 same-length-3 c = search needs
 
 returns-3 : tie.Need-returns-3
-returns-3 c = λ s H v. let b = c .before .before .before .before .before .before .move-process .ensures (going H ready ready refl refl (c .before .before .before .before .before .before .before .before .ready-at .ensures (c .before .before .before .before .before .before .before .before .before .before .before .before .before .before .args .shape)) (c .before .before .before .before .before .before .before .before .ready-at .ensures (c .before .before .before .before .before .before .before .before .before .before .before .before .before .before .args .shape)) (runner-stands (c .before .before .before .before .before .before .before .before .before .before .before .running-of .ensures (c .before .before .before .before .before .before .before .before .before .before .before .before .before .before .args .shape) s H) v (c .before .before .before .before .before .before .before .before .before .before .if1 .left)) refl) in set-priority-low H (c .before .before .before .before .before .before .before .before .before .before .before .before .before .before .args .priority) (c .before .before .before .before .before .before .before .before .before .before .before .running-of .ensures (c .before .before .before .before .before .before .before .before .before .before .before .before .before .before .args .shape) s H) (c .before .before .before .before .before .before .before .before .before .before .if1 .left) v (c .before .before .before .before .before .before .before .before .before .if2 .left) b (c .before .before .finish .ensures (sent (c .before .before .before .before .before .before .before .before .before .before .before .running-of .result) ready (with (priority (c .before .before .before .before .before .before .before .before .before .before .before .running-of .result)) (c .before .before .before .before .before .before .before .before .before .before .before .before .before .before .args .priority .0) s)) (b .holds))
+returns-3 c = λ s H v. let b = c .before .before .before .before .before .before .move-process .ensures (going H ready ready refl refl (c .before .before .before .before .before .before .before .before .ready-at .ensures (c .before .before .before .before .before .before .before .before .before .before .before .before .before .before .args .shape)) (c .before .before .before .before .before .before .before .before .ready-at .ensures (c .before .before .before .before .before .before .before .before .before .before .before .before .before .before .args .shape)) (runner-stands (c .before .before .before .before .before .before .before .before .before .before .before .running-of .ensures (c .before .before .before .before .before .before .before .before .before .before .before .before .before .before .args .shape) s H) v (c .before .before .before .before .before .before .before .before .before .before .if1 .left)) refl) .done refl in set-priority-low H (c .before .before .before .before .before .before .before .before .before .before .before .before .before .before .args .priority) (c .before .before .before .before .before .before .before .before .before .before .before .running-of .ensures (c .before .before .before .before .before .before .before .before .before .before .before .before .before .before .args .shape) s H) (c .before .before .before .before .before .before .before .before .before .before .if1 .left) v (c .before .before .before .before .before .before .before .before .before .if2 .left) b (c .before .before .finish .ensures (sent (c .before .before .before .before .before .before .before .before .before .before .before .running-of .result) ready (with (priority (c .before .before .before .before .before .before .before .before .before .before .before .running-of .result)) (c .before .before .before .before .before .before .before .before .before .before .before .before .before .before .args .priority .0) s)) (b .holds))
 
 pub set-priority-spec : {M : Type 1} → statement M
 set-priority-spec =

@@ -31,7 +31,7 @@ same-length : tie.Need-same-length
 same-length c = search needs
 
 returns : tie.Need-returns
-returns c = λ s H m. let b = c .before .before .before .before .before .before .before .before .set-timer .ensures s H in sleeps s (c .before .before .before .before .before .before .before .before .before .before .before .before .before .before .args .p) (c .before .before .before .before .before .before .before .before .before .before .before .before .before .before .args .condition) (c .before .before .before .before .before .before .before .before .before .before .before .before .before .before .args .ticks .0) (c .before .before .before .before .before .before .before .before .before .before .before .clock-of .ensures (c .before .before .before .before .before .before .before .before .before .before .before .before .before .before .args .shape) s H) (c .before .before .before .before .before .before .before .before .before .before .alarm-at .ensures) (becomes-then b (c .before .before .send .ensures (going (b .holds) ready (condition (c .before .before .before .before .before .before .before .before .before .before .before .before .before .before .args .condition)) refl (c .before .before .before .before .before .before .before .before .before .before .before .before .before .before .pre .1) (c .before .before .before .before .before .ready-at .ensures (c .before .before .before .before .before .before .before .before .before .before .before .before .before .before .args .shape)) (c .before .before .before .before .condition-at .ensures) m refl)))
+returns c = λ s H m. let b = c .before .before .before .before .before .before .before .before .set-timer .ensures s H in sleeps s (c .before .before .before .before .before .before .before .before .before .before .before .before .before .before .args .p) (c .before .before .before .before .before .before .before .before .before .before .before .before .before .before .args .condition) (c .before .before .before .before .before .before .before .before .before .before .before .before .before .before .args .ticks .0) (c .before .before .before .before .before .before .before .before .before .before .before .clock-of .ensures (c .before .before .before .before .before .before .before .before .before .before .before .before .before .before .args .shape) s H) (c .before .before .before .before .before .before .before .before .before .before .alarm-at .ensures) (becomes-then b (c .before .before .send .ensures (going (b .holds) ready (condition (c .before .before .before .before .before .before .before .before .before .before .before .before .before .before .args .condition)) refl (c .before .before .before .before .before .before .before .before .before .before .before .before .before .before .pre .1) (c .before .before .before .before .before .ready-at .ensures (c .before .before .before .before .before .before .before .before .before .before .before .before .before .before .args .shape)) (c .before .before .before .before .condition-at .ensures) m refl) .done refl))
 
 pub sleep-spec : {M : Type 1} → statement M
 sleep-spec =

@@ -2,7 +2,7 @@
 use native.Mathlib.Omega.{arith}
 use mathlib.Core.Logic.{inl, inr}
 use Rattle.model.specs.Queue.Queue.{condition}
-use Rattle.calls.proofs.Numbers.{is-inside, first-there}
+use Rattle.calls.proofs.Numbers.{is-inside, first-there, first-inside}
 use Rattle.calls.proofs.Waking.{naked-none, naked-nobody, naked-first}
 use borrow.Author.Needs.{needs}
 use Rattle.calls.proofs.wakes.naked.Statement.{statement}
@@ -39,16 +39,16 @@ returns-3 : tie.Need-returns-3
 returns-3 c = λ s H v. let i = is-inside (c .before .before .before .before .before .before .before .before .before .before .before .before .before .before .before .before .args .shape .conditions) (c .before .before .before .before .before .before .before .before .before .before .before .before .before .before .before .before .args .condition) (c .before .before .before .before .before .before .before .before .before .before .before .before .before .before .if1 .left) (c .before .before .before .before .before .before .before .before .before .before .before .before .if2 .left) in let f = c .before .before .before .before .before .before .before .before .before .first-in .ensures s (condition (c .before .before .before .before .before .before .before .before .before .before .before .before .before .before .before .before .args .condition)) H i (c .before .before .before .before .before .before .before .before .before .before .before .condition-at .ensures) in let b = c .before .before .before .before .before .before .set-wakeup .ensures s H in naked-nobody H _ i f (c .before .before .before .before .before .before .before .before .if3 .taken) b (c .before .before .finish .ensures _ (b .holds))
 
 wake-requires : tie.Need-wake-requires
-wake-requires c κs = let s = c .before .before .before .before .before .before .before .before .before .pre .state in let H = c .before .before .before .before .before .before .before .before .before .pre .holds in let i = is-inside (c .before .before .before .before .before .before .before .before .before .args .shape .conditions) (c .before .before .before .before .before .before .before .before .before .args .condition) (c .before .before .before .before .before .before .before .if1 .left) (c .before .before .before .before .before .if2 .left) in let f = c .before .before .first-in .ensures s (condition (c .before .before .before .before .before .before .before .before .before .args .condition)) H i (c .before .before .before .before .condition-at .ensures) in (s, condition (c .before .before .before .before .before .before .before .before .before .args .condition), H, i, c .before .before .before .before .condition-at .ensures, first-there H (condition (c .before .before .before .before .before .before .before .before .before .args .condition)) f (c .before .if3 .left))
+wake-requires c κs = let s = c .before .before .before .before .before .before .before .before .before .pre .state in let H = c .before .before .before .before .before .before .before .before .before .pre .holds in let i = is-inside (c .before .before .before .before .before .before .before .before .before .args .shape .conditions) (c .before .before .before .before .before .before .before .before .before .args .condition) (c .before .before .before .before .before .before .before .if1 .left) (c .before .before .before .before .before .if2 .left) in let f = c .before .before .first-in .ensures s (condition (c .before .before .before .before .before .before .before .before .before .args .condition)) H i (c .before .before .before .before .condition-at .ensures) in (s, condition (c .before .before .before .before .before .before .before .before .before .args .condition), H, i, c .before .before .before .before .condition-at .ensures, first-inside H (condition (c .before .before .before .before .before .before .before .before .before .args .condition)) f (c .before .if3 .left))
 
 finish-requires-2 : tie.Need-finish-requires-2
-finish-requires-2 c κs = let s = c .before .before .before .before .before .before .before .before .before .before .before .before .before .pre .state in let H = c .before .before .before .before .before .before .before .before .before .before .before .before .before .pre .holds in let i = is-inside (c .before .before .before .before .before .before .before .before .before .before .before .before .before .args .shape .conditions) (c .before .before .before .before .before .before .before .before .before .before .before .before .before .args .condition) (c .before .before .before .before .before .before .before .before .before .before .before .if1 .left) (c .before .before .before .before .before .before .before .before .before .if2 .left) in let f = c .before .before .before .before .before .before .first-in .ensures s (condition (c .before .before .before .before .before .before .before .before .before .before .before .before .before .args .condition)) H i (c .before .before .before .before .before .before .before .before .condition-at .ensures) in (_, (c .before .before .before .wake .ensures s (condition (c .before .before .before .before .before .before .before .before .before .before .before .before .before .args .condition)) H i (c .before .before .before .before .before .before .before .before .condition-at .ensures) (first-there H (condition (c .before .before .before .before .before .before .before .before .before .before .before .before .before .args .condition)) f (c .before .before .before .before .before .if3 .left)) .holds))
+finish-requires-2 c κs = let s = c .before .before .before .before .before .before .before .before .before .before .before .before .before .pre .state in let H = c .before .before .before .before .before .before .before .before .before .before .before .before .before .pre .holds in let i = is-inside (c .before .before .before .before .before .before .before .before .before .before .before .before .before .args .shape .conditions) (c .before .before .before .before .before .before .before .before .before .before .before .before .before .args .condition) (c .before .before .before .before .before .before .before .before .before .before .before .if1 .left) (c .before .before .before .before .before .before .before .before .before .if2 .left) in let f = c .before .before .before .before .before .before .first-in .ensures s (condition (c .before .before .before .before .before .before .before .before .before .before .before .before .before .args .condition)) H i (c .before .before .before .before .before .before .before .before .condition-at .ensures) in (_, (c .before .before .before .wake .ensures s (condition (c .before .before .before .before .before .before .before .before .before .before .before .before .before .args .condition)) H i (c .before .before .before .before .before .before .before .before .condition-at .ensures) .done (first-there H (condition (c .before .before .before .before .before .before .before .before .before .before .before .before .before .args .condition)) f (c .before .before .before .before .before .if3 .left)) .holds))
 
 same-length-2 : tie.Need-same-length-2
 same-length-2 c = search needs
 
 returns-4 : tie.Need-returns-4
-returns-4 c = λ s H v. let i = is-inside (c .before .before .before .before .before .before .before .before .before .before .before .before .before .before .before .before .args .shape .conditions) (c .before .before .before .before .before .before .before .before .before .before .before .before .before .before .before .before .args .condition) (c .before .before .before .before .before .before .before .before .before .before .before .before .before .before .if1 .left) (c .before .before .before .before .before .before .before .before .before .before .before .before .if2 .left) in let f = c .before .before .before .before .before .before .before .before .before .first-in .ensures s (condition (c .before .before .before .before .before .before .before .before .before .before .before .before .before .before .before .before .args .condition)) H i (c .before .before .before .before .before .before .before .before .before .before .before .condition-at .ensures) in let b = c .before .before .before .before .before .before .wake .ensures s (condition (c .before .before .before .before .before .before .before .before .before .before .before .before .before .before .before .before .args .condition)) H i (c .before .before .before .before .before .before .before .before .before .before .before .condition-at .ensures) (first-there H (condition (c .before .before .before .before .before .before .before .before .before .before .before .before .before .before .before .before .args .condition)) f (c .before .before .before .before .before .before .before .before .if3 .left)) in naked-first H _ i f (c .before .before .before .before .before .before .before .before .if3 .left) b (c .before .before .finish2 .ensures _ (b .holds))
+returns-4 c = λ s H v. let i = is-inside (c .before .before .before .before .before .before .before .before .before .before .before .before .before .before .before .before .args .shape .conditions) (c .before .before .before .before .before .before .before .before .before .before .before .before .before .before .before .before .args .condition) (c .before .before .before .before .before .before .before .before .before .before .before .before .before .before .if1 .left) (c .before .before .before .before .before .before .before .before .before .before .before .before .if2 .left) in let f = c .before .before .before .before .before .before .before .before .before .first-in .ensures s (condition (c .before .before .before .before .before .before .before .before .before .before .before .before .before .before .before .before .args .condition)) H i (c .before .before .before .before .before .before .before .before .before .before .before .condition-at .ensures) in let b = c .before .before .before .before .before .before .wake .ensures s (condition (c .before .before .before .before .before .before .before .before .before .before .before .before .before .before .before .before .args .condition)) H i (c .before .before .before .before .before .before .before .before .before .before .before .condition-at .ensures) .done (first-there H (condition (c .before .before .before .before .before .before .before .before .before .before .before .before .before .before .before .before .args .condition)) f (c .before .before .before .before .before .before .before .before .if3 .left)) in naked-first H _ i f (c .before .before .before .before .before .before .before .before .if3 .left) b (c .before .before .finish2 .ensures _ (b .holds))
 
 pub naked-spec : {M : Type 1} → statement M
 naked-spec =

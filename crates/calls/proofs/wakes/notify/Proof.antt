@@ -1,7 +1,7 @@
 -- `calls::wakes::notify` meets its contract: the first of the condition wakes, if there is one, by the rule of Notify. Assumes nothing.
 use mathlib.Core.Logic.{inl, inr}
 use Rattle.model.specs.Queue.Queue.{condition}
-use Rattle.calls.proofs.Numbers.{is-inside, first-there}
+use Rattle.calls.proofs.Numbers.{is-inside, first-there, first-inside}
 use Rattle.calls.proofs.Waking.{notify-idle, notify-none, notify-nobody, notify-first}
 use borrow.Author.Needs.{needs}
 use Rattle.calls.proofs.wakes.notify.Statement.{statement}
@@ -53,16 +53,16 @@ returns-4 : tie.Need-returns-4
 returns-4 c = λ s H v. let i = is-inside (c .before .before .before .before .before .before .before .before .before .before .before .before .before .before .before .args .shape .conditions) (c .before .before .before .before .before .before .before .before .before .before .before .before .before .before .before .args .condition) (c .before .before .before .before .before .before .before .before .before .before .if2 .left) (c .before .before .before .before .before .before .before .before .if3 .left) in let f = c .before .before .before .before .before .first-in .ensures s (condition (c .before .before .before .before .before .before .before .before .before .before .before .before .before .before .before .args .condition)) H i (c .before .before .before .before .before .before .before .condition-at .ensures) in notify-nobody H _ (c .before .before .before .before .before .before .before .before .before .before .before .before .running-of .ensures _ s H) (c .before .before .before .before .before .before .before .before .before .before .before .if1 .left) i f (c .before .before .before .before .if4 .taken) (c .before .before .finish .ensures s H)
 
 wake-requires : tie.Need-wake-requires
-wake-requires c κs = let s = c .before .before .before .before .before .before .before .before .before .before .before .before .pre .state in let H = c .before .before .before .before .before .before .before .before .before .before .before .before .pre .holds in let i = is-inside (c .before .before .before .before .before .before .before .before .before .before .before .before .args .shape .conditions) (c .before .before .before .before .before .before .before .before .before .before .before .before .args .condition) (c .before .before .before .before .before .before .before .if2 .left) (c .before .before .before .before .before .if3 .left) in let f = c .before .before .first-in .ensures s (condition (c .before .before .before .before .before .before .before .before .before .before .before .before .args .condition)) H i (c .before .before .before .before .condition-at .ensures) in (s, condition (c .before .before .before .before .before .before .before .before .before .before .before .before .args .condition), H, i, c .before .before .before .before .condition-at .ensures, first-there H (condition (c .before .before .before .before .before .before .before .before .before .before .before .before .args .condition)) f (c .before .if4 .left))
+wake-requires c κs = let s = c .before .before .before .before .before .before .before .before .before .before .before .before .pre .state in let H = c .before .before .before .before .before .before .before .before .before .before .before .before .pre .holds in let i = is-inside (c .before .before .before .before .before .before .before .before .before .before .before .before .args .shape .conditions) (c .before .before .before .before .before .before .before .before .before .before .before .before .args .condition) (c .before .before .before .before .before .before .before .if2 .left) (c .before .before .before .before .before .if3 .left) in let f = c .before .before .first-in .ensures s (condition (c .before .before .before .before .before .before .before .before .before .before .before .before .args .condition)) H i (c .before .before .before .before .condition-at .ensures) in (s, condition (c .before .before .before .before .before .before .before .before .before .before .before .before .args .condition), H, i, c .before .before .before .before .condition-at .ensures, first-inside H (condition (c .before .before .before .before .before .before .before .before .before .before .before .before .args .condition)) f (c .before .if4 .left))
 
 finish-requires-2 : tie.Need-finish-requires-2
-finish-requires-2 c κs = let s = c .before .before .before .before .before .before .before .before .before .before .before .before .before .before .before .before .pre .state in let H = c .before .before .before .before .before .before .before .before .before .before .before .before .before .before .before .before .pre .holds in let i = is-inside (c .before .before .before .before .before .before .before .before .before .before .before .before .before .before .before .before .args .shape .conditions) (c .before .before .before .before .before .before .before .before .before .before .before .before .before .before .before .before .args .condition) (c .before .before .before .before .before .before .before .before .before .before .before .if2 .left) (c .before .before .before .before .before .before .before .before .before .if3 .left) in let f = c .before .before .before .before .before .before .first-in .ensures s (condition (c .before .before .before .before .before .before .before .before .before .before .before .before .before .before .before .before .args .condition)) H i (c .before .before .before .before .before .before .before .before .condition-at .ensures) in (_, (c .before .before .before .wake .ensures s (condition (c .before .before .before .before .before .before .before .before .before .before .before .before .before .before .before .before .args .condition)) H i (c .before .before .before .before .before .before .before .before .condition-at .ensures) (first-there H (condition (c .before .before .before .before .before .before .before .before .before .before .before .before .before .before .before .before .args .condition)) f (c .before .before .before .before .before .if4 .left)) .holds))
+finish-requires-2 c κs = let s = c .before .before .before .before .before .before .before .before .before .before .before .before .before .before .before .before .pre .state in let H = c .before .before .before .before .before .before .before .before .before .before .before .before .before .before .before .before .pre .holds in let i = is-inside (c .before .before .before .before .before .before .before .before .before .before .before .before .before .before .before .before .args .shape .conditions) (c .before .before .before .before .before .before .before .before .before .before .before .before .before .before .before .before .args .condition) (c .before .before .before .before .before .before .before .before .before .before .before .if2 .left) (c .before .before .before .before .before .before .before .before .before .if3 .left) in let f = c .before .before .before .before .before .before .first-in .ensures s (condition (c .before .before .before .before .before .before .before .before .before .before .before .before .before .before .before .before .args .condition)) H i (c .before .before .before .before .before .before .before .before .condition-at .ensures) in (_, (c .before .before .before .wake .ensures s (condition (c .before .before .before .before .before .before .before .before .before .before .before .before .before .before .before .before .args .condition)) H i (c .before .before .before .before .before .before .before .before .condition-at .ensures) .done (first-there H (condition (c .before .before .before .before .before .before .before .before .before .before .before .before .before .before .before .before .args .condition)) f (c .before .before .before .before .before .if4 .left)) .holds))
 
 same-length-5 : tie.Need-same-length-5
 same-length-5 c = search needs
 
 returns-5 : tie.Need-returns-5
-returns-5 c = λ s H v. let i = is-inside (c .before .before .before .before .before .before .before .before .before .before .before .before .before .before .before .before .before .before .before .args .shape .conditions) (c .before .before .before .before .before .before .before .before .before .before .before .before .before .before .before .before .before .before .before .args .condition) (c .before .before .before .before .before .before .before .before .before .before .before .before .before .before .if2 .left) (c .before .before .before .before .before .before .before .before .before .before .before .before .if3 .left) in let f = c .before .before .before .before .before .before .before .before .before .first-in .ensures s (condition (c .before .before .before .before .before .before .before .before .before .before .before .before .before .before .before .before .before .before .before .args .condition)) H i (c .before .before .before .before .before .before .before .before .before .before .before .condition-at .ensures) in let b = c .before .before .before .before .before .before .wake .ensures s (condition (c .before .before .before .before .before .before .before .before .before .before .before .before .before .before .before .before .before .before .before .args .condition)) H i (c .before .before .before .before .before .before .before .before .before .before .before .condition-at .ensures) (first-there H (condition (c .before .before .before .before .before .before .before .before .before .before .before .before .before .before .before .before .before .before .before .args .condition)) f (c .before .before .before .before .before .before .before .before .if4 .left)) in notify-first H _ (c .before .before .before .before .before .before .before .before .before .before .before .before .before .before .before .before .running-of .ensures _ s H) (c .before .before .before .before .before .before .before .before .before .before .before .before .before .before .before .if1 .left) i f (c .before .before .before .before .before .before .before .before .if4 .left) b (c .before .before .finish2 .ensures _ (b .holds))
+returns-5 c = λ s H v. let i = is-inside (c .before .before .before .before .before .before .before .before .before .before .before .before .before .before .before .before .before .before .before .args .shape .conditions) (c .before .before .before .before .before .before .before .before .before .before .before .before .before .before .before .before .before .before .before .args .condition) (c .before .before .before .before .before .before .before .before .before .before .before .before .before .before .if2 .left) (c .before .before .before .before .before .before .before .before .before .before .before .before .if3 .left) in let f = c .before .before .before .before .before .before .before .before .before .first-in .ensures s (condition (c .before .before .before .before .before .before .before .before .before .before .before .before .before .before .before .before .before .before .before .args .condition)) H i (c .before .before .before .before .before .before .before .before .before .before .before .condition-at .ensures) in let b = c .before .before .before .before .before .before .wake .ensures s (condition (c .before .before .before .before .before .before .before .before .before .before .before .before .before .before .before .before .before .before .before .args .condition)) H i (c .before .before .before .before .before .before .before .before .before .before .before .condition-at .ensures) .done (first-there H (condition (c .before .before .before .before .before .before .before .before .before .before .before .before .before .before .before .before .before .before .before .args .condition)) f (c .before .before .before .before .before .before .before .before .if4 .left)) in notify-first H _ (c .before .before .before .before .before .before .before .before .before .before .before .before .before .before .before .before .running-of .ensures _ s H) (c .before .before .before .before .before .before .before .before .before .before .before .before .before .before .before .if1 .left) i f (c .before .before .before .before .before .before .before .before .if4 .left) b (c .before .before .finish2 .ensures _ (b .holds))
 
 pub notify-spec : {M : Type 1} → statement M
 notify-spec =

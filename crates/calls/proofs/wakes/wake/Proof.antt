@@ -1,26 +1,53 @@
--- `calls::wakes::wake` meets its contract: the timer is put to 0, and the process is sent to ready. Assumes nothing.
-use Rattle.area.proofs.Puts.{becomes-then}
-use Rattle.area.proofs.Rings.{member-inside}
-use Rattle.calls.proofs.Waking.{to-ready}
+-- `calls::wakes::wake` meets its contract: the process is sent to ready if it stands there, and then its timer is put to 0. Assumes nothing.
 use borrow.Author.Needs.{needs}
+use borrow.Author.Tests.{not-false, not-true}
+use mathlib.Core.Path.{refl, sym, _∙_}
+use Rattle.model.specs.Queue.Queue.{ready}
+use Rattle.area.proofs.Puts.{becomes-then}
+use Rattle.area.proofs.Tries.{did, did-not}
+use Rattle.calls.proofs.Shared.{trying}
 use Rattle.calls.proofs.wakes.wake.Statement.{statement}
 use Rattle.calls.proofs.wakes.wake.Tie as tie
-
-set-timer-requires : tie.Need-set-timer-requires
-set-timer-requires c κs = let h = c .before .before .pre in ((h .0, h .2), member-inside _ (h .0) (h .2 .placed) _ (h .1) (h .5))
 
 ready-at-requires : tie.Need-ready-at-requires
 ready-at-requires c κs = search needs
 
 send-requires : tie.Need-send-requires
-send-requires c κs = let h = c .before .before .before .before .before .before .before .pre in to-ready (h .1) (c .before .before .before .before .set-timer .ensures (h .0) (h .2) .holds) (h .3) (h .4) (c .before .ready-at .ensures (c .before .before .before .before .before .before .before .args .shape)) (h .5)
+send-requires c κs = let h = c .before .before .before .pre in trying (h .2) (h .1) ready (h .3) refl (h .4) (c .before .ready-at .ensures (c .before .before .before .args .shape)) (h .5) refl
 
 same-length : tie.Need-same-length
 same-length c = search needs
 
 returns : tie.Need-returns
-returns c = λ s q H given here m. let b = c .before .before .before .before .before .before .before .set-timer .ensures s H in becomes-then b (c .before .before .send .ensures (to-ready q (b .holds) given here (c .before .before .before .before .ready-at .ensures (c .before .before .before .before .before .before .before .before .before .before .args .shape)) m))
+returns c s q H given here =
+    let t = c .before .before .before .send .ensures (trying H q ready given refl here (c .before .before .before .before .before .ready-at .ensures (c .before .before .before .before .before .before .before .args .shape)) (c .before .before .before .before .before .before .before .pre .5) refl) in
+    let no = sym (t .told) ∙ not-true (c .before .before .before .send .result) (c .if1 .taken) in
+    did-not no (t .kept no)
+
+set-timer-requires : tie.Need-set-timer-requires
+set-timer-requires c κs =
+    let h = c .before .before .before .before .before .before .before .before .pre in
+    let t = c .before .before .before .before .send .ensures (trying (h .2) (h .1) ready (h .3) refl (h .4) (c .before .before .before .before .before .before .ready-at .ensures (c .before .before .before .before .before .before .before .before .args .shape)) (h .5) refl) in
+    ((_, t .done (sym (t .told) ∙ not-false (c .before .before .before .before .send .result) (c .before .if1 .left)) .holds), h .5)
+
+same-length-2 : tie.Need-same-length-2
+same-length-2 c = search needs
+
+returns-2 : tie.Need-returns-2
+returns-2 c s q H given here =
+    let t = c .before .before .before .before .before .before .before .send .ensures (trying H q ready given refl here (c .before .before .before .before .before .before .before .before .before .ready-at .ensures (c .before .before .before .before .before .before .before .before .before .before .before .args .shape)) (c .before .before .before .before .before .before .before .before .before .before .before .pre .5) refl) in
+    let yes = sym (t .told) ∙ not-false (c .before .before .before .before .before .before .before .send .result) (c .before .before .before .before .if1 .left) in
+    let b = t .done yes in
+    did yes (becomes-then b (c .before .before .set-timer .ensures _ (b .holds)))
 
 pub wake-spec : {M : Type 1} → statement M
 wake-spec =
-    tie.close (tie.spec set-timer-requires ready-at-requires send-requires same-length returns)
+    tie.close
+    (tie.spec
+    ready-at-requires
+    send-requires
+    same-length
+    returns
+    set-timer-requires
+    same-length-2
+    returns-2)

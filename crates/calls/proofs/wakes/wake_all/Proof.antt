@@ -11,6 +11,7 @@ use Rattle.model.specs.Machine.{State, model}
 use Rattle.area.specs.Layout.{at}
 use Rattle.area.specs.Layout.Slot.{Tail}
 use Rattle.area.specs.Holds.{Holds}
+use Rattle.area.proofs.Rings.{member-inside}
 use Rattle.calls.proofs.Numbers.{as-long}
 use Rattle.calls.proofs.Waking.{Waking, waking-start, waking-few, waking-member, waking-next, waking-end}
 use Rattle.calls.proofs.wakes.wake_all.Statement.{statement}
@@ -29,13 +30,13 @@ loop-holds : tie.Need-loop-holds Inv-loop μ-loop
 loop-holds c = λ s k H given here. waking-start H k (c .first-in .ensures s (condition k) H given here)
 
 wake-requires : tie.Need-wake-requires Inv-loop μ-loop
-wake-requires c κs = let q = c .before .before .before .before .before .before .pre in let H = q .1 .1 in let w = c .before .before .loop .inv (q .1 .0) (q .0) H (q .2) (q .3) in (_, condition (q .0), w .becomes .holds, q .2, q .3, waking-member H (q .0) w (c .before .loop-test .taken))
+wake-requires c κs = let q = c .before .before .before .before .before .before .pre in let H = q .1 .1 in let w = c .before .before .loop .inv (q .1 .0) (q .0) H (q .2) (q .3) in (_, condition (q .0), w .becomes .holds, q .2, q .3, member-inside _ _ (w .becomes .holds .placed) _ (condition (q .0)) (waking-member H (q .0) w (c .before .loop-test .taken)))
 
 add-moved : tie.Need-add-moved Inv-loop μ-loop
 add-moved c = let q = c .before .before .before .before .before .before .before .before .before .pre in let H = q .1 .1 in let w = c .before .before .before .before .before .loop .inv (q .1 .0) (q .0) H (q .2) (q .3) in omega (arith, waking-few H (q .0) w)
 
 first-in-requires-2 : tie.Need-first-in-requires-2 Inv-loop μ-loop
-first-in-requires-2 c κs = let q = c .before .before .before .before .before .before .before .before .before .before .pre in let H = q .1 .1 in let w = c .before .before .before .before .before .before .loop .inv (q .1 .0) (q .0) H (q .2) (q .3) in ((_, (c .before .before .before .wake .ensures _ (condition (q .0)) (w .becomes .holds) (q .2) (q .3) (waking-member H (q .0) w (c .before .before .before .before .before .loop-test .taken)) .holds)), (condition (q .0), q .2, q .3))
+first-in-requires-2 c κs = let q = c .before .before .before .before .before .before .before .before .before .before .pre in let H = q .1 .1 in let w = c .before .before .before .before .before .before .loop .inv (q .1 .0) (q .0) H (q .2) (q .3) in ((_, (c .before .before .before .wake .ensures _ (condition (q .0)) (w .becomes .holds) (q .2) (q .3) .done (waking-member H (q .0) w (c .before .before .before .before .before .loop-test .taken)) .holds)), (condition (q .0), q .2, q .3))
 
 loop-less : tie.Need-loop-less Inv-loop μ-loop
 loop-less c = let q = c .before .before .before .before .before .before .before .before .before .before .before .pre in let H = q .1 .1 in let w = c .before .before .before .before .before .before .before .loop .inv (q .1 .0) (q .0) H (q .2) (q .3) in omega (arith, waking-few H (q .0) w)
@@ -43,7 +44,7 @@ loop-less c = let q = c .before .before .before .before .before .before .before 
 loop-again : tie.Need-loop-again Inv-loop μ-loop
 loop-again c = λ s k H given here.
     let w = c .before .before .before .before .before .before .before .loop .inv s k H given here in
-    let b = c .before .before .before .before .wake .ensures _ (condition k) (w .becomes .holds) given here (waking-member H k w (c .before .before .before .before .before .before .loop-test .taken)) in
+    let b = c .before .before .before .before .wake .ensures _ (condition k) (w .becomes .holds) given here .done (waking-member H k w (c .before .before .before .before .before .before .loop-test .taken)) in
     waking-next H k w (c .before .before .before .before .before .before .loop-test .taken) b (c .first-in2 .ensures _ (condition k) (b .holds) given here)
 
 same-length : tie.Need-same-length Inv-loop μ-loop

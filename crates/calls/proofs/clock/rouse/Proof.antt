@@ -1,0 +1,94 @@
+-- `calls::clock::rouse` meets its contract. The loop's invariant: no word has changed, and p stands in none of the conditions before c, which is
+-- one of them; it holds again where p does not stand in c either, and at the last p can stand nowhere else. The measure is the conditions
+-- ahead. Assumes nothing.
+use Prim.Native.Nat.{ℕ, _-_, _≤_}
+use native.Mathlib.Omega.{arith}
+use mathlib.Core.Path.{_≡_, refl, sym, _∙_}
+use mathlib.Core.Bool.{false}
+use Rattle.model.specs.Queue.{anyOf, member}
+use Rattle.model.specs.Queue.Queue.{condition}
+use Rattle.model.specs.Machine.{State, model}
+use Rattle.model.proofs.Tests.{bounds-inside}
+use Rattle.area.specs.Holds.{Holds}
+use Rattle.calls.proofs.Numbers.{as-long}
+use Rattle.calls.proofs.Ticking.{any-some, any-next, any-last, sleeper, held-still, becomes-still}
+use Rattle.calls.proofs.clock.rouse.Statement.{statement}
+use Rattle.calls.proofs.clock.rouse.Tie as tie
+
+abbrev Inv-loop : tie.InvT-loop
+Inv-loop area₀ shape p conditions c₀ area c =
+    (1 ≤ c) × (c ≤ shape .conditions) × (area ≡ area₀) × ((s : State model) → Holds shape area₀ s → anyOf (c - 1) (λ k. member p (s .queues (condition k))) ≡ false)
+
+abbrev μ-loop : tie.MeasureT-loop
+μ-loop area₀ shape p conditions c₀ area c = shape .conditions - c
+
+loop-holds : tie.Need-loop-holds Inv-loop μ-loop
+loop-holds c = (omega arith, any-some (λ k. member (c .before .args .p) (c .before .pre .0 .queues (condition k))) (c .before .args .shape .conditions) (c .before .pre .2), refl, λ s H. refl)
+
+condition-at-requires : tie.Need-condition-at-requires Inv-loop μ-loop
+condition-at-requires c κs = bounds-inside (c .before .before .before .args .shape .conditions) (c .before .loop .c) (c .before .loop .inv .0) (c .before .loop .inv .1)
+
+wake-requires : tie.Need-wake-requires Inv-loop μ-loop
+wake-requires c κs = (_, condition (c .before .before .before .loop .c), (held-still (c .before .before .before .loop .inv .2) (c .before .before .before .before .before .pre .1)), bounds-inside (c .before .before .before .before .before .args .shape .conditions) (c .before .before .before .loop .c) (c .before .before .before .loop .inv .0) (c .before .before .before .loop .inv .1), c .before .condition-at .ensures, sleeper (c .before .before .before .before .before .pre .1) (c .before .before .before .before .before .args .p) (c .before .before .before .before .before .pre .2))
+
+same-length : tie.Need-same-length Inv-loop μ-loop
+same-length c =
+    let t = c .before .before .before .wake .ensures _ (condition (c .before .before .before .before .before .before .before .loop .c)) (held-still (c .before .before .before .before .before .before .before .loop .inv .2) (c .before .before .before .before .before .before .before .before .before .pre .1)) (bounds-inside (c .before .before .before .before .before .before .before .before .before .args .shape .conditions) (c .before .before .before .before .before .before .before .loop .c) (c .before .before .before .before .before .before .before .loop .inv .0) (c .before .before .before .before .before .before .before .loop .inv .1)) (c .before .before .before .before .before .condition-at .ensures) in
+    as-long (c .before .before .before .before .before .before .before .before .before .pre .1) (becomes-still (c .before .before .before .before .before .before .before .loop .inv .2) (t .done (sym (t .told) ∙ c .if1 .taken)))
+
+returns : tie.Need-returns Inv-loop μ-loop
+returns c s H w =
+    let t = c .before .before .before .wake .ensures s (condition (c .before .before .before .before .before .before .before .loop .c)) (held-still (c .before .before .before .before .before .before .before .loop .inv .2) H) (bounds-inside (c .before .before .before .before .before .before .before .before .before .args .shape .conditions) (c .before .before .before .before .before .before .before .loop .c) (c .before .before .before .before .before .before .before .loop .inv .0) (c .before .before .before .before .before .before .before .loop .inv .1)) (c .before .before .before .before .before .condition-at .ensures) in
+    becomes-still (c .before .before .before .before .before .before .before .loop .inv .2) (t .done (sym (t .told) ∙ c .if1 .taken))
+
+add-c : tie.Need-add-c Inv-loop μ-loop
+add-c c = omega arith
+
+loop-less : tie.Need-loop-less Inv-loop μ-loop
+loop-less c = omega arith
+
+loop-again : tie.Need-loop-again Inv-loop μ-loop
+loop-again c =
+    let t = c .before .before .before .wake .ensures _ (condition (c .before .before .before .before .before .before .before .loop .c)) (held-still (c .before .before .before .before .before .before .before .loop .inv .2) (c .before .before .before .before .before .before .before .before .before .pre .1)) (bounds-inside (c .before .before .before .before .before .before .before .before .before .args .shape .conditions) (c .before .before .before .before .before .before .before .loop .c) (c .before .before .before .before .before .before .before .loop .inv .0) (c .before .before .before .before .before .before .before .loop .inv .1)) (c .before .before .before .before .before .condition-at .ensures) in (
+      omega arith,
+      omega arith,
+      t .kept (sym (t .told) ∙ c .if1 .left) ∙ c .before .before .before .before .before .before .before .loop .inv .2,
+      λ s H.
+          let u = c .before .before .before .wake .ensures s (condition (c .before .before .before .before .before .before .before .loop .c)) (held-still (c .before .before .before .before .before .before .before .loop .inv .2) H) (bounds-inside (c .before .before .before .before .before .before .before .before .before .args .shape .conditions) (c .before .before .before .before .before .before .before .loop .c) (c .before .before .before .before .before .before .before .loop .inv .0) (c .before .before .before .before .before .before .before .loop .inv .1)) (c .before .before .before .before .before .condition-at .ensures) in
+          any-next (λ k. member (c .before .before .before .before .before .before .before .before .before .args .p) (s .queues (condition k))) (c .before .before .before .before .before .before .before .loop .c) (c .before .before .before .before .before .before .before .loop .inv .0) (sym (u .told) ∙ c .if1 .left) (c .before .before .before .before .before .before .before .loop .inv .3 s H),
+    )
+
+condition-at-requires-2 : tie.Need-condition-at-requires-2 Inv-loop μ-loop
+condition-at-requires-2 c κs = bounds-inside (c .before .before .before .args .shape .conditions) (c .before .loop .c) (c .before .loop .inv .0) (c .before .loop .inv .1)
+
+wake-requires-2 : tie.Need-wake-requires-2 Inv-loop μ-loop
+wake-requires-2 c κs = (_, condition (c .before .before .before .loop .c), (held-still (c .before .before .before .loop .inv .2) (c .before .before .before .before .before .pre .1)), bounds-inside (c .before .before .before .before .before .args .shape .conditions) (c .before .before .before .loop .c) (c .before .before .before .loop .inv .0) (c .before .before .before .loop .inv .1), c .before .condition-at2 .ensures, sleeper (c .before .before .before .before .before .pre .1) (c .before .before .before .before .before .args .p) (c .before .before .before .before .before .pre .2))
+
+same-length-2 : tie.Need-same-length-2 Inv-loop μ-loop
+same-length-2 c =
+    let t = c .before .before .wake2 .ensures _ (condition (c .before .before .before .before .before .before .loop .c)) (held-still (c .before .before .before .before .before .before .loop .inv .2) (c .before .before .before .before .before .before .before .before .pre .1)) (bounds-inside (c .before .before .before .before .before .before .before .before .args .shape .conditions) (c .before .before .before .before .before .before .loop .c) (c .before .before .before .before .before .before .loop .inv .0) (c .before .before .before .before .before .before .loop .inv .1)) (c .before .before .before .before .condition-at2 .ensures) in
+    as-long (c .before .before .before .before .before .before .before .before .pre .1) (becomes-still (c .before .before .before .before .before .before .loop .inv .2) (t .done (any-last (λ k. member (c .before .before .before .before .before .before .before .before .args .p) (c .before .before .before .before .before .before .before .before .pre .0 .queues (condition k))) (c .before .before .before .before .before .before .before .before .args .shape .conditions) (c .before .before .before .before .before .before .loop .c) (c .before .before .before .before .before .before .loop .inv .1) (c .before .before .before .before .before .loop-test .left) (c .before .before .before .before .before .before .before .before .pre .2) (c .before .before .before .before .before .before .loop .inv .3 (c .before .before .before .before .before .before .before .before .pre .0) (c .before .before .before .before .before .before .before .before .pre .1)))))
+
+returns-2 : tie.Need-returns-2 Inv-loop μ-loop
+returns-2 c s H w =
+    let t = c .before .before .wake2 .ensures s (condition (c .before .before .before .before .before .before .loop .c)) (held-still (c .before .before .before .before .before .before .loop .inv .2) H) (bounds-inside (c .before .before .before .before .before .before .before .before .args .shape .conditions) (c .before .before .before .before .before .before .loop .c) (c .before .before .before .before .before .before .loop .inv .0) (c .before .before .before .before .before .before .loop .inv .1)) (c .before .before .before .before .condition-at2 .ensures) in
+    becomes-still (c .before .before .before .before .before .before .loop .inv .2) (t .done (any-last (λ k. member (c .before .before .before .before .before .before .before .before .args .p) (s .queues (condition k))) (c .before .before .before .before .before .before .before .before .args .shape .conditions) (c .before .before .before .before .before .before .loop .c) (c .before .before .before .before .before .before .loop .inv .1) (c .before .before .before .before .before .loop-test .left) w (c .before .before .before .before .before .before .loop .inv .3 s H)))
+
+pub rouse-spec : {M : Type 1} → statement M
+rouse-spec =
+    tie.close
+    (tie.spec
+    Inv-loop
+    μ-loop
+    loop-holds
+    condition-at-requires
+    wake-requires
+    same-length
+    returns
+    add-c
+    loop-less
+    loop-again
+    condition-at-requires-2
+    wake-requires-2
+    same-length-2
+    returns-2)
