@@ -3,7 +3,8 @@ use crate::answers;
 use model::Answer;
 use model::Shape;
 ghost use mathlib.Core.Path.{_≡_};
-ghost use mathlib.Core.Bool.{true};
+ghost use mathlib.Core.Logic.{_≢_};
+ghost use mathlib.Core.Bool.{true, false};
 ghost use mathlib.Core.List.{[], _∷_};
 ghost use Prim.Native.Nat.{ℕ};
 ghost use lib.ListN.{length};
@@ -11,7 +12,7 @@ ghost use Rattle.model.specs.declared.Call.the-variants.{Notify, Broadcast, Nak
 ghost use Rattle.model.specs.Queue.{Queue, exists, inside, member, toReady};
 ghost use Rattle.model.specs.Queue.Queue.{ready};
 ghost use Rattle.model.specs.Field.{put};
-ghost use Rattle.model.specs.Field.Field.{timer};
+ghost use Rattle.model.specs.Field.Field.{running, timer};
 ghost use Rattle.model.specs.Rules.{calm};
 ghost use Rattle.model.specs.Machine.{State, model};
 ghost use Rattle.model.specs.Valid.{Valid};
@@ -33,6 +34,25 @@ pub fn wake(area: &mut [u16], shape: Shape, from: usize, p: u16) -> bool
     true
 }
 
+// The first of the condition wakes. Where nobody waits, a device's signal sets wakeup, and another leaves all as it is.
+fn signal(area: &mut [u16], shape: Shape, condition: u16, device: bool) -> Answer
+    requires { ⌜ Held shape (now area) ⌝ }
+    requires { ⌜ inside (shape .conditions) condition ≡ true ⌝ }
+    ensures { λ r. ⌜ ((s : State model) → Holds shape (now (area .entry)) s → (device ≡ true → Does (Naked condition) shape (now (area .entry)) (now (area .exit)) s r) × (device ≡ false → s .fields running ≢ 0 → Does (Notify condition) shape (now (area .entry)) (now (area .exit)) s r)) ⌝ }
+{
+    let from = area::condition_at(shape, condition);
+    let first = area::first_in(area, shape, from);
+    if first != 0 {
+        wake(area, shape, from, first);
+        return answers::finish(area, shape, 0, 1);
+    }
+    if device {
+        area::set_wakeup(area, shape, condition, 1);
+        return answers::finish(area, shape, 1, 0);
+    }
+    answers::finish(area, shape, 0, 0)
+}
+
 pub fn notify(area: &mut [u16], shape: Shape, condition: u16) -> Answer
     requires { ⌜ Stands shape (now area) ⌝ }
     ensures { λ r. ⌜ ((s : State model) → Holds shape (now (area .entry)) s → Valid shape s → Does (Notify condition) shape (now (area .entry)) (now (area .exit)) s r) ⌝ }
@@ -47,13 +67,7 @@ pub fn notify(area: &mut [u16], shape: Shape, condition: u16) -> Answer
     if shape.conditions < condition {
         return answers::refusal(7);
     }
-    let from = area::condition_at(shape, condition);
-    let first = area::first_in(area, shape, from);
-    if first == 0 {
-        return answers::finish(area, shape, 0, 0);
-    }
-    wake(area, shape, from, first);
-    answers::finish(area, shape, 0, 1)
+    signal(area, shape, condition, false)
 }
 
 // All of the condition whose tail stands at from wake, first to last. The answer is how many.
@@ -100,12 +114,5 @@ pub fn naked(area: &mut [u16], shape: Shape, condition: u16) -> Answer
     if shape.conditions < condition {
         return answers::refusal(7);
     }
-    let from = area::condition_at(shape, condition);
-    let first = area::first_in(area, shape, from);
-    if first == 0 {
-        area::set_wakeup(area, shape, condition, 1);
-        return answers::finish(area, shape, 1, 0);
-    }
-    wake(area, shape, from, first);
-    answers::finish(area, shape, 0, 1)
+    signal(area, shape, condition, true)
 }
