@@ -181,14 +181,14 @@ pub fn count_in(area: &[u16], shape: Shape, i: usize) -> u16
     ring::length_of(&area[at..], tail)
 }
 
-// Writes the queue whose tail stands at i to the front of out, the first of it first.
-pub fn copy_out(area: &[u16], shape: Shape, i: usize, out: &mut [u16])
+// Writes the queue whose tail stands at i to the front of out, the first of it first. The answer is how many.
+pub fn copy_out(area: &[u16], shape: Shape, i: usize, out: &mut [u16]) -> u16
     requires { ⌜ ((s : State model) × (q : Queue) × Holds shape (now area) s × (exists shape q ≡ true) × (i ≡ at shape (Tail q)) × (length (s .queues q) ≤ length (now out))) ⌝ }
-    ensures { λ _. ⌜ ((s : State model) (q : Queue) → Holds shape (now (area .entry)) s → exists shape q ≡ true → i ≡ at shape (Tail q) → now (out .exit) ≡ s .queues q ++ drop (length (s .queues q)) (now (out .entry))) ⌝ }
+    ensures { λ r. ⌜ ((s : State model) (q : Queue) → Holds shape (now (area .entry)) s → exists shape q ≡ true → i ≡ at shape (Tail q) → (r ≡ length (s .queues q)) × (now (out .exit) ≡ s .queues q ++ drop (length (s .queues q)) (now (out .entry)))) ⌝ }
 {
     let at = records_at(shape);
     let tail = ring::next_field(area[i]);
-    ring::write_out(&area[at..], tail, out);
+    ring::write_out(&area[at..], tail, out)
 }
 
 // ---- words

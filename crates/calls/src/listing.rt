@@ -56,11 +56,13 @@ pub fn list(area: &[u16], shape: Shape, kind: u16, number: u16, buffer: &mut [u1
     if i == 0 {
         return Listed { code: 7, count: 0 };
     }
-    let count = area::count_in(area, shape, i);
-    if buffer.len() < count as usize {
-        return Listed { code: 5, count: 0 };
+    // a buffer with room for every process has room for any queue
+    if buffer.len() < shape.processes as usize {
+        if buffer.len() < area::count_in(area, shape, i) as usize {
+            return Listed { code: 5, count: 0 };
+        }
     }
-    area::copy_out(area, shape, i, buffer);
+    let count = area::copy_out(area, shape, i, buffer);
     Listed {
         code: 0,
         count: count,
