@@ -102,7 +102,7 @@ module _ {kind i : ℕ} {n : Shape} {s : State model} {old : List ℕ} where
     whole = λ g h. let w : ⊥ = omega arith in absurd w;
   }
 
-  pub list-whole : {k : ℕ} {new : List ℕ} → isQueue n kind i ≡ true → k ≡ length (s .queues (queueBy kind i)) → k ≤ length old → new ≡ s .queues (queueBy kind i) ++ drop (length (s .queues (queueBy kind i))) old → Lists kind i n s old new record { code = 0; count = k }
+  pub list-whole : {k : ℕ} {new : List ℕ} → isQueue n kind i ≡ true → k ≡ length (s .queues (queueBy kind i)) → length (s .queues (queueBy kind i)) ≤ length old → new ≡ s .queues (queueBy kind i) ++ drop (length (s .queues (queueBy kind i))) old → Lists kind i n s old new record { code = 0; count = k }
   list-whole t e l d = record {
     missing = λ f. absurd (true≢false (sym t ∙ f));
     short = λ g h. let w : ⊥ = omega arith in absurd w;
