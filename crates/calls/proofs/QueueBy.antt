@@ -11,7 +11,7 @@ use Rattle.model.specs.Queue.{Queue, inside, exists}
 use Rattle.model.specs.Queue.Queue.{ready, park, lock, condition}
 use Rattle.model.specs.Rules.{readyOrPark}
 use Rattle.model.specs.Machine.{State, model}
-use Rattle.model.proofs.Tests.{eqb-yes, eqb-no, inside-bounds, bounds-inside, denied}
+use Rattle.model.proofs.Tests.{eqb-yes, eqb-no, inside-bounds, denied}
 use Rattle.area.specs.Layout.{at}
 use Rattle.area.specs.Layout.Slot.{Tail}
 use Rattle.calls.specs.Listing.{queueBy, isQueue, Lists}
