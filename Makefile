@@ -17,14 +17,15 @@ lib:
 rehearse:
 	rt check rehearse
 
-target/nine: lib examples/nine.c include/kernel.h
-	gcc $(CFLAGS) examples/nine.c $(LIB) -o $@
+target/%: examples/%.c lib include/kernel.h
+	gcc $(CFLAGS) $< $(LIB) -o $@
 
 run: rehearse
 	target/bin/rehearse < $(SCRIPT) | paste $(SCRIPT) -
 
-test: target/nine rehearse
+test: target/nine target/probe rehearse
 	target/nine | diff examples/nine.txt -
+	target/probe | diff examples/probe.txt -
 	$(TESTS)
 	rt ci
 

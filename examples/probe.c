@@ -1,0 +1,254 @@
+/* A compost probe, simulated: four tasks share one processor through the kernel. Each event prints a line: when, who, the call, what comes
+ * of it.
+ *
+ * The sampler asks the converter for a temperature, waits for its interrupt, two ticks at most, and puts the reading into the store. The
+ * writer copies it to flash. The radio reports how many were written. Housekeeping feeds the watchdog while the area is sound. They share
+ * the store, so a monitor lock guards it.
+ *
+ * How it is built: a task is a small state machine, and a step of it makes at most one call. Every answer says who runs now, and the main
+ * loop steps that task next. A task that waits or queues keeps its state, and is not stepped until an answer names it again. */
+#include <stdbool.h>
+#include <stdio.h>
+#include <stdlib.h>
+
+#include "../include/kernel.h"
+
+/* ---- processes, locks and conditions, numbered from 1 */
+
+enum { NOBODY, SAMPLER, WRITER, RADIO, HOUSEKEEPING, PROCESSES = HOUSEKEEPING };
+enum { STORE = 1, LOCKS = STORE };
+enum { CONVERTED = 1, READING, PAUSE, CONDITIONS = PAUSE }; /* nobody notifies PAUSE: a task waits there for its ticks alone */
+enum { PARKS = 0 };
+
+static const char *const NAMES[] = {
+    [NOBODY] = "nobody", [SAMPLER] = "sampler", [WRITER] = "writer", [RADIO] = "radio", [HOUSEKEEPING] = "housekeeping"};
+static const uint8_t PRIORITIES[PROCESSES] = {[SAMPLER - 1] = 5, [WRITER - 1] = 3, [RADIO - 1] = 6, [HOUSEKEEPING - 1] = 1};
+
+enum { WORDS = KERNEL_AREA_WORDS(PROCESSES, LOCKS, CONDITIONS, PARKS) };
+static uint16_t area[WORDS];
+static unsigned running; /* as the last answer says */
+
+/* ---- time and printing */
+
+enum { STEPS_PER_TICK = 10, TICKS = 11 };
+static unsigned now; /* in steps; printed in ticks */
+
+static void tell(const char *who, const char *call, const char *outcome)
+{
+    printf("%2u.%u  %-12s  %-16s  %s", now / STEPS_PER_TICK, now % STEPS_PER_TICK, who, call, outcome);
+}
+
+/* Every answer comes by here, with what its mark means. No call below is refused while the probe's memory is whole; where one is, a real
+ * probe begins again with kernel_start. */
+static bool called(const char *who, const char *call, uint64_t answer, const char *marked, const char *unmarked)
+{
+    if (KERNEL_CODE(answer) != KERNEL_OK) {
+        tell(who, call, "refused");
+        printf(" with code %u\n", KERNEL_CODE(answer));
+        exit(EXIT_FAILURE);
+    }
+    tell(who, call, KERNEL_MARK(answer) == 1 ? marked : unmarked);
+    if (KERNEL_MOVED(answer) > 0)
+        printf(", %u made ready", KERNEL_MOVED(answer));
+    if (KERNEL_RUNNING(answer) != running)
+        printf("; %s runs", NAMES[KERNEL_RUNNING(answer)]);
+    if (KERNEL_RETRY(answer) == 1)
+        printf(" and must enter again");
+    printf("\n");
+    running = KERNEL_RUNNING(answer);
+    return KERNEL_MARK(answer) == 1;
+}
+
+/* ---- calls of the running task */
+
+/* Whether it has the store now. If not, it queues, and enters again when it runs again. */
+static bool enter(void)
+{
+    return called(NAMES[running], "enter store", kernel_enter(area, WORDS, STORE), "has the lock", "queues for the lock");
+}
+
+static void leave(void)
+{
+    called(NAMES[running], "exit store", kernel_exit(area, WORDS, STORE), "", "gives up the lock");
+}
+
+/* Whether it waits. If not, an interrupt that came before was kept for it. Either way it gave up the store and must enter again. */
+static bool wait_for(const char *call, uint16_t condition, uint16_t ticks)
+{
+    return called(NAMES[running], call, kernel_wait(area, WORDS, STORE, condition, ticks), "gives up the lock and waits",
+                  "gives up the lock, takes the kept wakeup");
+}
+
+/* ---- the converter, a device: it interrupts some steps after it was asked; every third reading comes too late */
+
+static const struct reading {
+    unsigned steps, celsius;
+} READINGS[] = {{5, 58}, {28, 61}, {5, 63}};
+
+static struct {
+    unsigned asked, due;
+    bool done;
+} converter;
+
+static const struct reading *newest(void)
+{
+    return &READINGS[(converter.asked - 1) % 3];
+}
+
+static void ask_converter(void)
+{
+    converter.asked++;
+    converter.due = now + newest()->steps;
+    converter.done = false;
+}
+
+/* ---- what the lock guards */
+
+static struct {
+    bool full;
+    unsigned celsius, written, lost;
+} store;
+
+/* ---- the tasks */
+
+static void sampler(void)
+{
+    static enum { BEGIN, WAIT, AGAIN, LOOK, NOTIFY, REST } state;
+    switch (state) {
+    case BEGIN:
+        if (enter()) {
+            tell("sampler", "", "asks the converter\n");
+            ask_converter();
+            state = WAIT;
+        }
+        break;
+    case WAIT:
+        state = wait_for("wait converted 2", CONVERTED, 2) ? LOOK : AGAIN;
+        break;
+    case AGAIN: /* the kept wakeup was that of a lost reading */
+        if (enter())
+            state = WAIT;
+        break;
+    case LOOK: /* woken by the converter or, if it is not done, by the clock */
+        if (enter()) {
+            if (converter.done) {
+                store.full = true;
+                store.celsius = newest()->celsius;
+                state = NOTIFY;
+            } else {
+                tell("sampler", "", "no reading in time\n");
+                store.lost++;
+                state = REST;
+            }
+        }
+        break;
+    case NOTIFY:
+        called("sampler", "notify reading", kernel_notify(area, WORDS, READING), "", "a reading is there");
+        state = REST;
+        break;
+    case REST:
+        wait_for("wait pause 2", PAUSE, 2);
+        state = BEGIN;
+        break;
+    }
+}
+
+static void writer(void)
+{
+    static enum { BEGIN, LOOK, COPY, LEAVE } state;
+    static unsigned bytes;
+    switch (state) {
+    case BEGIN:
+        if (enter())
+            state = LOOK;
+        break;
+    case LOOK:
+        if (store.full) {
+            bytes = 0;
+            state = COPY;
+        } else {
+            wait_for("wait reading", READING, 0);
+            state = BEGIN;
+        }
+        break;
+    case COPY: /* slow, and under the lock */
+        if (++bytes == 4) {
+            tell("writer", "", "");
+            printf("wrote %u degrees\n", store.celsius);
+            store.full = false;
+            store.written++;
+            state = LEAVE;
+        }
+        break;
+    case LEAVE:
+        leave();
+        state = BEGIN;
+        break;
+    }
+}
+
+static void radio(void)
+{
+    static enum { BEGIN, SEND } state;
+    switch (state) {
+    case BEGIN:
+        if (enter())
+            state = SEND;
+        break;
+    case SEND:
+        tell("radio", "", "");
+        printf("sends: %u written, %u lost\n", store.written, store.lost);
+        wait_for("wait pause 5", PAUSE, 5);
+        state = BEGIN;
+        break;
+    }
+}
+
+static void housekeeping(void)
+{
+    static enum { BEGIN, FEED } state;
+    switch (state) {
+    case BEGIN:
+        if (enter())
+            state = FEED;
+        break;
+    case FEED:
+        if (kernel_sound(area, WORDS) == 1)
+            tell("housekeeping", "", "area sound, feeds the watchdog\n");
+        wait_for("wait pause 4", PAUSE, 4);
+        state = BEGIN;
+        break;
+    }
+}
+
+/* Nobody runs: the processor rests until an interrupt. */
+static void nobody(void)
+{
+}
+
+/* ---- interrupts; in a real probe their handlers make these calls, and interrupts are masked around every call */
+
+static void interrupts(void)
+{
+    if (now % STEPS_PER_TICK == 0)
+        called("clock", "tick", kernel_tick(area, WORDS), "", "a tick");
+    if (converter.asked > 0 && now == converter.due) {
+        converter.done = true;
+        called("converter", "naked converted", kernel_naked(area, WORDS, CONVERTED), "nobody waits, wakeup kept", "a reading");
+    }
+}
+
+int main(void)
+{
+    static void (*const STEPS[])(void) = {
+        [NOBODY] = nobody, [SAMPLER] = sampler, [WRITER] = writer, [RADIO] = radio, [HOUSEKEEPING] = housekeeping};
+
+    printf("tick  who           call              what comes of it\n");
+    called("probe", "start", kernel_start(area, WORDS, PROCESSES, LOCKS, CONDITIONS, PARKS, PRIORITIES, sizeof PRIORITIES), "",
+           "all ready");
+    for (now = 1; now < TICKS * STEPS_PER_TICK; now++) {
+        interrupts();
+        STEPS[running]();
+    }
+    return EXIT_SUCCESS;
+}
