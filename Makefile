@@ -1,15 +1,20 @@
-# make run:   builds Rehearse and plays SCRIPT through it, each line beside its answer.
-# make test:  every test and proof, from nothing; its last step is the gate of the proof kit.
-# make bench: the library against plain C on the same work, as ratios.
-# make fuzz:  the tests with a fresh seed, which is printed, for SECONDS.
+# make lib:      the library, target/staticlib/libkernel.a.
+# make rehearse: the program Rehearse, target/bin/rehearse.
+# make run:      builds Rehearse and plays SCRIPT through it, each line beside its answer.
+# make test:     every test and proof, from nothing; its last step is the gate of the proof kit.
+# make bench:    the library against plain C on the same work, as ratios.
+# make fuzz:     the tests with a fresh seed, which is printed, for SECONDS.
+# make install:  the header, the library with a file for pkg-config, and Rehearse, below PREFIX; DESTDIR, if given, goes before it.
 
 LIB = target/staticlib/libkernel.a
 CFLAGS = -std=c11 -Wall -Wextra -O2
 TESTS = cargo run --quiet --release --manifest-path tests/Cargo.toml --features calls,list,rehearse --
 SECONDS ?= 60
 SCRIPT ?= examples/script.txt
+PREFIX ?= /usr/local
+VERSION = 0.1.0
 
-.PHONY: lib rehearse run test bench fuzz
+.PHONY: lib rehearse run test bench fuzz install
 
 lib:
 	rt staticlib kernel
@@ -37,3 +42,10 @@ bench: target/bench
 
 fuzz: lib rehearse
 	$(TESTS) fuzz $(SECONDS)
+
+install: lib rehearse
+	install -d $(addprefix $(DESTDIR)$(PREFIX)/,include lib/pkgconfig bin)
+	install -m 644 include/kernel.h $(DESTDIR)$(PREFIX)/include
+	install -m 644 $(LIB) $(DESTDIR)$(PREFIX)/lib
+	sed 's,@PREFIX@,$(PREFIX),; s,@VERSION@,$(VERSION),' rungteasel.pc.in > $(DESTDIR)$(PREFIX)/lib/pkgconfig/rungteasel.pc
+	install target/bin/rehearse $(DESTDIR)$(PREFIX)/bin
