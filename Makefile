@@ -3,6 +3,7 @@
 # make run:      builds Rehearse and plays SCRIPT through it, each line beside its answer.
 # make test:     every test and proof, from nothing; its last step is the gate of the proof kit.
 # make bench:    the library against plain C on the same work, as ratios.
+# make plot:     the same at more sizes, drawn into docs/cost.svg.
 # make fuzz:     the tests with a fresh seed, which is printed, for SECONDS.
 # make install:  the header, the library with a file for pkg-config, and Rehearse, below PREFIX; DESTDIR, if given, goes before it.
 
@@ -14,7 +15,7 @@ SCRIPT ?= examples/script.txt
 PREFIX ?= /usr/local
 VERSION = 0.1.0
 
-.PHONY: lib rehearse run test bench fuzz install
+.PHONY: lib rehearse run test bench plot fuzz install
 
 lib:
 	rt staticlib kernel
@@ -34,11 +35,15 @@ test: target/nine target/probe rehearse
 	$(TESTS)
 	rt ci
 
-target/bench: lib bench/bench.c bench/plain.c bench/plain.h
-	gcc $(CFLAGS) -DWITH_CALLS -DWITH_LIST bench/bench.c bench/plain.c $(LIB) -o $@
+target/bench: lib bench/bench.c bench/plain.c bench/plain.h include/kernel.h
+	gcc $(CFLAGS) bench/bench.c bench/plain.c $(LIB) -o $@
 
 bench: target/bench
 	target/bench
+
+plot: target/bench
+	target/bench 3 10 30 100 300 1023 > target/bench.txt
+	python3 bench/plot.py < target/bench.txt > docs/cost.svg
 
 fuzz: lib rehearse
 	$(TESTS) fuzz $(SECONDS)

@@ -1,10 +1,8 @@
-/* Times the library against the plain C kernel, call by call, in one run: rounds of both
- * alternate, the table shows the medians and their ratio. WITH_CALLS and WITH_LIST say which
- * exports the library has beside start and sound. From this folder:
- *   gcc -std=c11 -Wall -Wextra -O2 -DWITH_CALLS -DWITH_LIST bench.c plain.c \
- *       -L../target/staticlib -lkernel -o ../target/bench && ../target/bench */
+/* Times the library against the plain C kernel, call by call, in one run: rounds of both alternate, and the table shows the medians and
+ * their ratio. The arguments are the sizes, as counts of processes; without any, 3, 50 and 1023. */
 #define _POSIX_C_SOURCE 199309L
 
+#include "../include/kernel.h"
 #include "plain.h"
 
 #include <stdbool.h>
@@ -13,69 +11,33 @@
 #include <string.h>
 #include <time.h>
 
-typedef uint64_t start_call(uint16_t *, size_t, uint16_t, uint16_t, uint16_t, uint16_t,
-                            const uint8_t *, size_t);
-typedef uint64_t sound_call(const uint16_t *, size_t);
-typedef uint64_t bare_call(uint16_t *, size_t);
-typedef uint64_t number_call(uint16_t *, size_t, uint16_t);
-typedef uint64_t three_call(uint16_t *, size_t, uint16_t, uint16_t, uint16_t);
-typedef uint64_t list_call(const uint16_t *, size_t, uint16_t, uint16_t, uint16_t *, size_t);
-
-start_call kernel_start;
-sound_call kernel_sound;
-bare_call kernel_tick;
-number_call kernel_enter, kernel_exit, kernel_notify, kernel_broadcast, kernel_naked,
-    kernel_set_priority;
-three_call kernel_wait, kernel_requeue;
-list_call kernel_list;
-
 /* One kernel's calls. */
 struct calls {
-    start_call *start;
-    sound_call *sound;
-    bare_call *tick;
-    number_call *enter, *exit, *notify, *broadcast, *naked, *set_priority;
-    three_call *wait, *requeue;
-    list_call *list;
+    uint64_t (*start)(uint16_t *, size_t, uint16_t, uint16_t, uint16_t, uint16_t, const uint8_t *, size_t);
+    uint64_t (*sound)(const uint16_t *, size_t);
+    uint64_t (*tick)(uint16_t *, size_t);
+    uint64_t (*enter)(uint16_t *, size_t, uint16_t);
+    uint64_t (*exit)(uint16_t *, size_t, uint16_t);
+    uint64_t (*notify)(uint16_t *, size_t, uint16_t);
+    uint64_t (*broadcast)(uint16_t *, size_t, uint16_t);
+    uint64_t (*naked)(uint16_t *, size_t, uint16_t);
+    uint64_t (*set_priority)(uint16_t *, size_t, uint16_t);
+    uint64_t (*wait)(uint16_t *, size_t, uint16_t, uint16_t, uint16_t);
+    uint64_t (*requeue)(uint16_t *, size_t, uint16_t, uint16_t, uint16_t);
+    uint64_t (*list)(const uint16_t *, size_t, uint16_t, uint16_t, uint16_t *, size_t);
 };
 
-static const struct calls PLAIN = {
-    .start = plain_start,
-    .sound = plain_sound,
-    .tick = plain_tick,
-    .enter = plain_enter,
-    .exit = plain_exit,
-    .notify = plain_notify,
-    .broadcast = plain_broadcast,
-    .naked = plain_naked,
-    .set_priority = plain_set_priority,
-    .wait = plain_wait,
-    .requeue = plain_requeue,
-    .list = plain_list,
-};
+#define CALLS_OF(kernel) \
+    {.start = kernel##_start, .sound = kernel##_sound, .tick = kernel##_tick, .enter = kernel##_enter, \
+     .exit = kernel##_exit, .notify = kernel##_notify, .broadcast = kernel##_broadcast, \
+     .naked = kernel##_naked, .set_priority = kernel##_set_priority, .wait = kernel##_wait, \
+     .requeue = kernel##_requeue, .list = kernel##_list}
 
-static const struct calls LIBRARY = {
-    .start = kernel_start,
-    .sound = kernel_sound,
-#ifdef WITH_CALLS
-    .tick = kernel_tick,
-    .enter = kernel_enter,
-    .exit = kernel_exit,
-    .notify = kernel_notify,
-    .broadcast = kernel_broadcast,
-    .naked = kernel_naked,
-    .set_priority = kernel_set_priority,
-    .wait = kernel_wait,
-    .requeue = kernel_requeue,
-#endif
-#ifdef WITH_LIST
-    .list = kernel_list,
-#endif
-};
+static const struct calls LIBRARY = CALLS_OF(kernel), PLAIN = CALLS_OF(plain);
 
 enum { LOCKS = 2, CONDITIONS = 4, PARKS = 2, PRIORITY = 3, MAX_PROCESSES = 1023 };
 enum { EMPTY = CONDITIONS }; /* the condition in which nobody ever waits */
-enum { MAX_WORDS = 6 + PARKS + 2 * LOCKS + CONDITIONS + 3 * MAX_PROCESSES };
+enum { MAX_WORDS = KERNEL_AREA_WORDS(MAX_PROCESSES, LOCKS, CONDITIONS, PARKS) };
 
 struct bench {
     uint16_t processes;
@@ -91,10 +53,9 @@ static void make(struct bench *b, uint16_t processes, bool waiting)
     memset(b, 0, sizeof *b);
     b->processes = processes;
     b->waiting = waiting;
-    b->words = 6 + PARKS + 2 * LOCKS + CONDITIONS + 3 * (size_t)processes;
+    b->words = KERNEL_AREA_WORDS(processes, LOCKS, CONDITIONS, PARKS);
     memset(b->priorities, PRIORITY, processes);
-    plain_start(b->area, b->words, processes, LOCKS, CONDITIONS, PARKS, b->priorities,
-                processes);
+    plain_start(b->area, b->words, processes, LOCKS, CONDITIONS, PARKS, b->priorities, processes);
     for (uint16_t process = 0; waiting && process < processes; process++) {
         plain_enter(b->area, b->words, 1);
         plain_wait(b->area, b->words, 1, (uint16_t)(1 + process % (CONDITIONS - 1)), 0);
@@ -107,8 +68,7 @@ typedef uint64_t work(const struct calls *, struct bench *);
 
 static uint64_t do_start(const struct calls *c, struct bench *b)
 {
-    return c->start(b->area, b->words, b->processes, LOCKS, CONDITIONS, PARKS, b->priorities,
-                    b->processes);
+    return c->start(b->area, b->words, b->processes, LOCKS, CONDITIONS, PARKS, b->priorities, b->processes);
 }
 
 static uint64_t do_sound(const struct calls *c, struct bench *b)
@@ -170,39 +130,24 @@ static uint64_t do_list(const struct calls *c, struct bench *b)
     return c->list(b->area, b->words, kind, number, b->buffer, b->processes);
 }
 
-enum needs { NEEDS_START, NEEDS_CALLS, NEEDS_LIST };
-
 static const struct row {
     const char *name;
     work *work;
-    enum needs needs;
     bool also_waiting; /* whether it is of interest while nobody runs */
 } ROWS[] = {
-    {"start", do_start, NEEDS_START, false},
-    {"sound", do_sound, NEEDS_START, true},
-    {"enter, exit", do_enter_exit, NEEDS_CALLS, false},
-    {"naked, enter, wait", do_naked_enter_wait, NEEDS_CALLS, false},
-    {"enter, wait, notify", do_enter_wait_notify, NEEDS_CALLS, false},
-    {"notify, empty", do_notify, NEEDS_CALLS, false},
-    {"broadcast, empty", do_broadcast, NEEDS_CALLS, false},
-    {"naked, empty", do_naked, NEEDS_CALLS, true},
-    {"requeue", do_requeue, NEEDS_CALLS, false},
-    {"set_priority", do_set_priority, NEEDS_CALLS, false},
-    {"tick", do_tick, NEEDS_CALLS, true},
-    {"list", do_list, NEEDS_LIST, true},
+    {"start", do_start, false},
+    {"sound", do_sound, true},
+    {"enter, exit", do_enter_exit, false},
+    {"naked, enter, wait", do_naked_enter_wait, false},
+    {"enter, wait, notify", do_enter_wait_notify, false},
+    {"notify, empty", do_notify, false},
+    {"broadcast, empty", do_broadcast, false},
+    {"naked, empty", do_naked, true},
+    {"requeue", do_requeue, false},
+    {"set_priority", do_set_priority, false},
+    {"tick", do_tick, true},
+    {"list", do_list, true},
 };
-
-static bool there(enum needs needs)
-{
-    switch (needs) {
-    case NEEDS_CALLS:
-        return LIBRARY.tick != NULL;
-    case NEEDS_LIST:
-        return LIBRARY.list != NULL;
-    default:
-        return true;
-    }
-}
 
 /* Timing. */
 
@@ -274,25 +219,38 @@ static void measure(const struct row *row, uint16_t processes, bool waiting)
         library[round] = round_of(row->work, &LIBRARY, &other, times);
     }
     double base = median(plain), found = median(library);
-    printf("%-20s %5u %-8s %10.1f %10.1f %7.2f\n", row->name, processes,
-           waiting ? "waiting" : "ready", found, base, found / base);
+    printf("%-20s %5u %-8s %10.1f %10.1f %7.2f\n", row->name, processes, waiting ? "waiting" : "ready", found, base, found / base);
 }
 
-int main(void)
+/* A row of the table for each size, and for both states where both are of interest. */
+static void compare(const struct row *row, const uint16_t *sizes, size_t count)
 {
-    static const uint16_t SIZES[] = {3, 50, 1023};
-    printf("%-20s %5s %-8s %10s %10s %7s\n", "call", "P", "all", "library ns", "plain ns",
-           "ratio");
-    for (size_t row = 0; row < sizeof ROWS / sizeof *ROWS; row++) {
-        for (size_t size = 0; there(ROWS[row].needs) && size < 3; size++) {
-            for (int waiting = 0; waiting <= ROWS[row].also_waiting; waiting++) {
-                if (!agree(&ROWS[row], SIZES[size], waiting)) {
-                    printf("%s at P %u: the kernels differ\n", ROWS[row].name, SIZES[size]);
-                    return EXIT_FAILURE;
-                }
-                measure(&ROWS[row], SIZES[size], waiting);
+    for (size_t size = 0; size < count; size++) {
+        for (int waiting = 0; waiting <= row->also_waiting; waiting++) {
+            if (!agree(row, sizes[size], waiting)) {
+                fprintf(stderr, "%s at P %u: the kernels differ\n", row->name, sizes[size]);
+                exit(EXIT_FAILURE);
             }
+            measure(row, sizes[size], waiting);
         }
     }
+}
+
+int main(int argc, char **argv)
+{
+    enum { MAX_SIZES = 32 };
+    uint16_t sizes[MAX_SIZES] = {3, 50, MAX_PROCESSES};
+    size_t count = argc > 1 ? (size_t)argc - 1 : 3;
+    for (int arg = 1; arg < argc; arg++) {
+        long size = strtol(argv[arg], NULL, 10);
+        if (arg > MAX_SIZES || size < 1 || size > MAX_PROCESSES) {
+            fprintf(stderr, "usage: %s [SIZE]..., each 1 to %d, at most %d of them\n", argv[0], MAX_PROCESSES, MAX_SIZES);
+            return EXIT_FAILURE;
+        }
+        sizes[arg - 1] = (uint16_t)size;
+    }
+    printf("%-20s %5s %-8s %10s %10s %7s\n", "call", "P", "all", "library ns", "plain ns", "ratio");
+    for (size_t row = 0; row < sizeof ROWS / sizeof *ROWS; row++)
+        compare(&ROWS[row], sizes, count);
     return EXIT_SUCCESS;
 }
