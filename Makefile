@@ -1,11 +1,12 @@
-# make lib:      the library, target/staticlib/libkernel.a.
-# make rehearse: the program Rehearse, target/bin/rehearse.
-# make run:      builds Rehearse and plays SCRIPT through it, each line beside its answer.
-# make test:     every test and proof, from nothing; its last step is the gate of the proof kit.
-# make bench:    the library against plain C on the same work, as ratios.
-# make plot:     the same at more sizes, drawn into docs/cost.svg.
-# make fuzz:     the tests with a fresh seed, which is printed, for SECONDS.
-# make install:  the header, the library with a file for pkg-config, and Rehearse, below PREFIX; DESTDIR, if given, goes before it.
+# make lib:            the library, target/staticlib/libkernel.a.
+# make rehearse:       the program Rehearse, target/bin/rehearse.
+# make run:            builds Rehearse and plays SCRIPT through it, each line beside its answer.
+# make test:           every test and proof, from nothing; its last step is the gate of the proof kit.
+# make bench:          the library against plain C on the same work, as ratios.
+# make bench-rehearse: Rehearse against a plain C program over the library, in megabytes a second.
+# make plot:           the bench at more sizes, drawn into docs/cost.svg.
+# make fuzz:           the tests with a fresh seed, which is printed, for SECONDS.
+# make install:        the header, the library with a file for pkg-config, and Rehearse, below PREFIX; DESTDIR, if given, goes before it.
 
 LIB = target/staticlib/libkernel.a
 CFLAGS = -std=c11 -Wall -Wextra -O2
@@ -15,7 +16,7 @@ SCRIPT ?= examples/script.txt
 PREFIX ?= /usr/local
 VERSION = 0.1.0
 
-.PHONY: lib rehearse run test bench plot fuzz install
+.PHONY: lib rehearse run test bench bench-rehearse plot fuzz install
 
 lib:
 	rt staticlib kernel
@@ -40,6 +41,12 @@ target/bench: lib bench/bench.c bench/plain.c bench/plain.h include/kernel.h
 
 bench: target/bench
 	target/bench
+
+target/rehearse-plain: lib bench/rehearse.c include/kernel.h
+	gcc $(CFLAGS) bench/rehearse.c $(LIB) -o $@
+
+bench-rehearse: rehearse target/rehearse-plain
+	python3 bench/rehearse.py target/bin/rehearse target/rehearse-plain target
 
 plot: target/bench
 	target/bench 3 10 30 100 300 1023 > target/bench.txt
