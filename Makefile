@@ -6,6 +6,7 @@
 # make bench-rehearse: Rehearse against a plain C program over the library, in megabytes a second.
 # make plot:           the bench at more sizes, drawn into docs/cost.svg.
 # make fuzz:           the tests with a fresh seed, which is printed, for SECONDS.
+# make cortex-m:       an experiment outside of what is proved: the library on an emulated Cortex-M3.
 # make install:        the header, the library with a file for pkg-config, and Rehearse, below PREFIX; DESTDIR, if given, goes before it.
 
 LIB = target/staticlib/libkernel.a
@@ -16,7 +17,7 @@ SCRIPT ?= examples/script.txt
 PREFIX ?= /usr/local
 VERSION = 0.1.0
 
-.PHONY: lib rehearse run test bench bench-rehearse plot fuzz install
+.PHONY: lib rehearse run test bench bench-rehearse plot fuzz cortex-m install
 
 lib:
 	rt staticlib kernel
@@ -54,6 +55,9 @@ plot: target/bench
 
 fuzz: lib rehearse
 	$(TESTS) fuzz $(SECONDS)
+
+cortex-m: lib
+	experiments/cortex-m.sh
 
 install: lib rehearse
 	install -d $(addprefix $(DESTDIR)$(PREFIX)/,include lib/pkgconfig bin)
