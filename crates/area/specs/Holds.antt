@@ -5,6 +5,7 @@ use mathlib.Core.Bool.{Bool, true, false}
 use mathlib.Core.List.{List}
 use lib.ListN.{drop}
 use Rattle.model.specs.declared.Shape.{Shape}
+use Rattle.model.specs.declared.Answer.{Answer}
 use Rattle.model.specs.Queue.{Queue, bit, inside, exists, member, move}
 use Rattle.model.specs.Queue.Queue.{ready}
 use Rattle.model.specs.Field.{Field, Fields, put, priorities}
@@ -28,6 +29,11 @@ Held n ws = (s : State model) × Holds n ws s
 pub record Becomes (n : Shape) (old new : List ℕ) (s : State model) : Type 0 where
   pub holds : Holds n new s
   pub beyond : drop (size n) new ≡ drop (size n) old
+
+-- the answer and the area that a pair of state and answer asks for
+pub record Gives (n : Shape) (old new : List ℕ) (a : Answer) (r : State model × Answer) : Type 0 where
+  pub answer : a ≡ r .1
+  pub becomes : Becomes n old new (r .0)
 
 -- a try that succeeds where b: r says whether it did; A holds if it did, and no word has changed if it did not
 pub record Tried (b r : Bool) (old new : List ℕ) (A : Type 0) : Type 0 where

@@ -1,4 +1,4 @@
-// The area of words: where each word stands, single reads and writes, and the move of a process between two queues. Assumes nothing.
+// The area of words: where each word stands, single reads and writes, the move of a process between two queues, and dispatch with the answer of a call. Assumes nothing.
 use model::Shape;
 ghost use mathlib.Core.Path.{_≡_};
 ghost use mathlib.Core.Bool.{true};
@@ -19,6 +19,8 @@ ghost use Rattle.area.specs.Layout.Slot.{Tail, Link};
 ghost use Rattle.area.specs.Reading.{shapeOf};
 ghost use Rattle.area.specs.Holds.{Holds, Held, Becomes, Tried, Moves, with, sent, dispatched};
 ghost use Rattle.area.specs.Rings.{Rings, Leaves, Joins, Relinked, ranks};
+
+pub mod answers;
 
 // Words before the parks, and the words of a lock and of a record.
 const HEAD: usize = 6;

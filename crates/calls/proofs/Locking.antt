@@ -18,8 +18,8 @@ use Rattle.model.specs.Rules.Effect.{accept}
 use Rattle.model.specs.Machine.{State, model, finish, refusal}
 use Rattle.model.proofs.Tests.{eqb-yes, eqb-no, not-true}
 use Rattle.model.proofs.Loops.{released-moved}
-use Rattle.area.specs.Holds.{Holds, Becomes, with, sent}
-use Rattle.calls.specs.Parts.{Gives, Does, changed}
+use Rattle.area.specs.Holds.{Holds, Becomes, with, sent, Gives}
+use Rattle.calls.specs.Parts.{Does, changed}
 use Rattle.calls.proofs.Outcomes.{unless-yes, unless-no, choose-yes, choose-no, refuses, accepts}
 use Rattle.calls.proofs.Numbers.{first-only, nobody-first}
 

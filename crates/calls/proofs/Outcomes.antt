@@ -13,9 +13,9 @@ use Rattle.model.specs.Field.{Fields, priorities}
 use Rattle.model.specs.Rules.{Effect, unless, choose, decide}
 use Rattle.model.specs.Rules.Effect.{refuse, accept}
 use Rattle.model.specs.Machine.{State, model, moves, arrivals, finish, obey, step, refusal}
-use Rattle.area.specs.Holds.{Holds, Becomes}
+use Rattle.area.specs.Holds.{Holds, Becomes, Gives}
 use Rattle.area.proofs.Puts.{becomes-none, becomes-then}
-use Rattle.calls.specs.Parts.{Gives, Does, changed}
+use Rattle.calls.specs.Parts.{Does, changed}
 
 -- ---- tests
 

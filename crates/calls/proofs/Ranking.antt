@@ -18,8 +18,8 @@ use Rattle.model.specs.Rules.Effect.{accept}
 use Rattle.model.specs.Machine.{State, model, finish, refusal}
 use Rattle.model.specs.Valid.{Valid}
 use Rattle.model.proofs.Tests.{eqb-yes, eqb-no, leb-yes, leb-no}
-use Rattle.area.specs.Holds.{Holds, Becomes, with, sent}
-use Rattle.calls.specs.Parts.{Gives, Does}
+use Rattle.area.specs.Holds.{Holds, Becomes, with, sent, Gives}
+use Rattle.calls.specs.Parts.{Does}
 use Rattle.calls.proofs.Outcomes.{unless-yes, unless-no, refuses, accepts}
 use Rattle.calls.proofs.Shared.{runner-stands}
 

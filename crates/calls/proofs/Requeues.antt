@@ -20,8 +20,8 @@ use Rattle.model.proofs.Tests.{holds, fails, EqCase, eqb-case, eqb-yes, eqb-no,
 use Rattle.model.proofs.Loops.{elsewhere}
 use Rattle.area.specs.Layout.{at}
 use Rattle.area.specs.Layout.Slot.{Tail}
-use Rattle.area.specs.Holds.{Holds, Becomes, Moves}
-use Rattle.calls.specs.Parts.{Gives, Does, changed}
+use Rattle.area.specs.Holds.{Holds, Becomes, Moves, Gives}
+use Rattle.calls.specs.Parts.{Does, changed}
 use Rattle.calls.proofs.Numbers.{is-outside, is-inside, not-outside}
 use Rattle.calls.proofs.Shared.{trying}
 use Rattle.calls.proofs.Outcomes.{unless-yes, unless-no, refuses, accepts}

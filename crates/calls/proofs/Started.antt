@@ -33,14 +33,13 @@ use Rattle.area.specs.Layout.{Part, Parts, Slot, alter, word, span, home, size,
 use Rattle.area.specs.Layout.Part.{kept, tail, next, locked, waiting}
 use Rattle.area.specs.Layout.Slot.{Processes, LocksConditions, Parks, Clock, Running, Tail, Holder, Link, Flags, Timer}
 use Rattle.area.specs.State.{queues, nextIn, laid}
-use Rattle.area.specs.Holds.{Becomes}
+use Rattle.area.specs.Holds.{Becomes, Gives}
 use Rattle.area.specs.Rings.{Rings, isRing, swap, ranks, Relinked, Joins}
 use Rattle.area.proofs.Addresses.{at-below}
 use Rattle.area.proofs.Stores.{alter-here, alter-away, image-ext, store, stored-then}
 use Rattle.area.proofs.Whole.{stored-write}
 use Rattle.area.proofs.Rings.{ring-ext, rings-laid}
 use Rattle.area.proofs.Records.{next-said}
-use Rattle.calls.specs.Parts.{Gives}
 use Rattle.calls.specs.Start.{startOn, Starts, lined}
 
 -- ---- codes

@@ -23,10 +23,10 @@ use Rattle.model.proofs.Tests.{eqb-yes, eqb-no, or-split, inside-bounds, bounds
 use Rattle.model.proofs.Lists.{member-here, member-there, filter-member, member-filter, upTo-member, member-upTo}
 use Rattle.model.proofs.Places.{sent, relocate, Movers, stands-moves, waiting-is}
 use Rattle.model.proofs.Loops.{later-timer, due-waits, due-moved}
-use Rattle.area.specs.Holds.{Holds, Becomes, with}
+use Rattle.area.specs.Holds.{Holds, Becomes, with, Gives}
 use Rattle.area.proofs.Puts.{becomes-none, becomes-then}
 use Rattle.area.proofs.Rings.{member-inside}
-use Rattle.calls.specs.Parts.{Gives, Does}
+use Rattle.calls.specs.Parts.{Does}
 use Rattle.calls.proofs.Outcomes.{accepts}
 use Rattle.calls.proofs.Waking.{woken, woken-snoc}
 

@@ -24,8 +24,8 @@ use Rattle.model.proofs.Tests.{EqCase, holds, fails, eqb-case, eqb-yes, eqb-no,
 use Rattle.model.proofs.Lists.{count-remove-other, count-insert, member-count, counted-member}
 use Rattle.model.proofs.Places.{moves-append, arrivals-append}
 use Rattle.model.proofs.Loops.{released-moved}
-use Rattle.area.specs.Holds.{Holds, Becomes, with, sent}
-use Rattle.calls.specs.Parts.{Gives, Does, changed}
+use Rattle.area.specs.Holds.{Holds, Becomes, with, sent, Gives}
+use Rattle.calls.specs.Parts.{Does, changed}
 use Rattle.calls.proofs.Outcomes.{unless-yes, unless-no, choose-yes, choose-no, refuses, accepts}
 use Rattle.calls.proofs.Shared.{runner-stands}
 

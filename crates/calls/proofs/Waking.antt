@@ -23,10 +23,10 @@ use Rattle.model.proofs.Places.{moves-append, toReady-append, queue-length}
 use Rattle.model.proofs.Loops.{emptying, queue-moved, first-moved}
 use Rattle.area.specs.Layout.{at}
 use Rattle.area.specs.Layout.Slot.{Tail}
-use Rattle.area.specs.Holds.{Holds, Becomes, Moves}
+use Rattle.area.specs.Holds.{Holds, Becomes, Moves, Gives}
 use Rattle.area.proofs.Puts.{becomes-none, becomes-then}
 use Rattle.area.proofs.Whole.{counts-in}
-use Rattle.calls.specs.Parts.{Gives, Does, changed}
+use Rattle.calls.specs.Parts.{Does, changed}
 use Rattle.calls.proofs.Numbers.{is-outside, not-outside, first-only, no-first, member-some, nobody-first}
 use Rattle.calls.proofs.Outcomes.{unless-yes, unless-no, refuses, accepts}
 

@@ -9,18 +9,13 @@ use Rattle.model.specs.Queue.{Queue, Note, move}
 use Rattle.model.specs.Field.{Fields, priorities}
 use Rattle.model.specs.Machine.{State, model, moves, step}
 use Rattle.model.specs.Valid.{Valid}
-use Rattle.area.specs.Holds.{Holds, Becomes}
+use Rattle.area.specs.Holds.{Holds, Gives}
 
 -- the words ws are an area that holds a valid state
 pub record Stands (n : Shape) (ws : List ℕ) : Type 0 where
   pub state : State model
   pub holds : Holds n ws state
   pub valid : Valid n state
-
--- the answer and the area that a pair of state and answer asks for
-pub record Gives (n : Shape) (old new : List ℕ) (a : Answer) (r : State model × Answer) : Type 0 where
-  pub answer : a ≡ r .1
-  pub becomes : Becomes n old new (r .0)
 
 -- a call does what its rule says
 abbrev pub Does : Call → (n : Shape) (old new : List ℕ) → State model → Answer → Type 0

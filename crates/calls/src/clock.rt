@@ -1,6 +1,6 @@
 // The clock: Tick. Assumes nothing.
-use crate::answers;
 use crate::wakes;
+use area::answers;
 use model::Answer;
 use model::Shape;
 ghost use mathlib.Core.Path.{_≡_};

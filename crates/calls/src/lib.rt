@@ -1,5 +1,4 @@
 // Start, and the nine calls on an area that holds a valid state, over the contracts of the area alone. Assumes nothing.
-pub mod answers;
 pub mod clock;
 pub mod listing;
 pub mod locks;

@@ -1,5 +1,5 @@
 // Monitor locks: Enter and Exit. Assumes nothing.
-use crate::answers;
+use area::answers;
 use model::Answer;
 use model::Shape;
 ghost use mathlib.Core.Path.{_≡_};

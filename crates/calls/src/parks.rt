@@ -1,5 +1,5 @@
 // Queues that a call names: Requeue. Assumes nothing.
-use crate::answers;
+use area::answers;
 use model::Answer;
 use model::Process;
 use model::Shape;

@@ -1,5 +1,5 @@
 // Priorities: SetPriority. Assumes nothing.
-use crate::answers;
+use area::answers;
 use model::Answer;
 use model::Priority;
 use model::Shape;

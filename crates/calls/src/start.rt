@@ -1,5 +1,5 @@
 // Start: the area is written anew, and every process comes into ready. Assumes nothing.
-use crate::answers;
+use area::answers;
 use model::Answer;
 use model::Shape;
 ghost use mathlib.Core.Path.{_≡_};

@@ -1,6 +1,6 @@
 // Waiting on a condition: Wait. Assumes nothing.
-use crate::answers;
 use crate::locks;
+use area::answers;
 use model::Answer;
 use model::Shape;
 use model::Ticks;

@@ -1,5 +1,5 @@
 // Waking from a condition: Notify, Broadcast and Naked. Assumes nothing.
-use crate::answers;
+use area::answers;
 use model::Answer;
 use model::Shape;
 ghost use mathlib.Core.Path.{_≡_};

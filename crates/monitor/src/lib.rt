@@ -19,7 +19,7 @@ pub fn enter(area: &mut [u16], lock: u16) -> Answer
     ensures { λ r. ⌜ Performs (Enter lock) (now (area .entry)) (now (area .exit)) r ⌝ }
 {
     if !sound::sound(area) {
-        return calls::answers::refusal(1);
+        return area::answers::refusal(1);
     }
     let shape = area::shape_of(area);
     calls::locks::enter(area, shape, lock)
@@ -30,7 +30,7 @@ pub fn exit(area: &mut [u16], lock: u16) -> Answer
     ensures { λ r. ⌜ Performs (Exit lock) (now (area .entry)) (now (area .exit)) r ⌝ }
 {
     if !sound::sound(area) {
-        return calls::answers::refusal(1);
+        return area::answers::refusal(1);
     }
     let shape = area::shape_of(area);
     calls::locks::exit(area, shape, lock)
@@ -41,7 +41,7 @@ pub fn wait(area: &mut [u16], lock: u16, condition: u16, ticks: Ticks) -> Answer
     ensures { λ r. ⌜ Performs (Wait lock condition ticks) (now (area .entry)) (now (area .exit)) r ⌝ }
 {
     if !sound::sound(area) {
-        return calls::answers::refusal(1);
+        return area::answers::refusal(1);
     }
     let shape = area::shape_of(area);
     calls::waits::wait(area, shape, lock, condition, ticks)
@@ -52,7 +52,7 @@ pub fn notify(area: &mut [u16], condition: u16) -> Answer
     ensures { λ r. ⌜ Performs (Notify condition) (now (area .entry)) (now (area .exit)) r ⌝ }
 {
     if !sound::sound(area) {
-        return calls::answers::refusal(1);
+        return area::answers::refusal(1);
     }
     let shape = area::shape_of(area);
     calls::wakes::notify(area, shape, condition)
@@ -63,7 +63,7 @@ pub fn broadcast(area: &mut [u16], condition: u16) -> Answer
     ensures { λ r. ⌜ Performs (Broadcast condition) (now (area .entry)) (now (area .exit)) r ⌝ }
 {
     if !sound::sound(area) {
-        return calls::answers::refusal(1);
+        return area::answers::refusal(1);
     }
     let shape = area::shape_of(area);
     calls::wakes::broadcast(area, shape, condition)
@@ -74,7 +74,7 @@ pub fn naked(area: &mut [u16], condition: u16) -> Answer
     ensures { λ r. ⌜ Performs (Naked condition) (now (area .entry)) (now (area .exit)) r ⌝ }
 {
     if !sound::sound(area) {
-        return calls::answers::refusal(1);
+        return area::answers::refusal(1);
     }
     let shape = area::shape_of(area);
     calls::wakes::naked(area, shape, condition)
@@ -85,7 +85,7 @@ pub fn requeue(area: &mut [u16], source: u16, destination: u16, process: Process
     ensures { λ r. ⌜ Performs (Requeue source destination process) (now (area .entry)) (now (area .exit)) r ⌝ }
 {
     if !sound::sound(area) {
-        return calls::answers::refusal(1);
+        return area::answers::refusal(1);
     }
     let shape = area::shape_of(area);
     calls::parks::requeue(area, shape, source, destination, process)
@@ -96,7 +96,7 @@ pub fn set_priority(area: &mut [u16], priority: Priority) -> Answer
     ensures { λ r. ⌜ Performs (SetPriority priority) (now (area .entry)) (now (area .exit)) r ⌝ }
 {
     if !sound::sound(area) {
-        return calls::answers::refusal(1);
+        return area::answers::refusal(1);
     }
     let shape = area::shape_of(area);
     calls::ranks::set_priority(area, shape, priority)
@@ -107,7 +107,7 @@ pub fn tick(area: &mut [u16]) -> Answer
     ensures { λ r. ⌜ Performs Tick (now (area .entry)) (now (area .exit)) r ⌝ }
 {
     if !sound::sound(area) {
-        return calls::answers::refusal(1);
+        return area::answers::refusal(1);
     }
     let shape = area::shape_of(area);
     calls::clock::tick(area, shape)

@@ -1,7 +1,7 @@
--- `calls::answers::finish` meets its contract: dispatch, and its answer as the call's. Assumes nothing.
+-- `area::answers::finish` meets its contract: dispatch, and its answer as the call's. Assumes nothing.
 use borrow.Author.Needs.{needs}
-use Rattle.calls.proofs.answers.finish.Statement.{statement}
-use Rattle.calls.proofs.answers.finish.Tie as tie
+use Rattle.area.proofs.answers.finish.Statement.{statement}
+use Rattle.area.proofs.answers.finish.Tie as tie
 
 dispatch-requires : tie.Need-dispatch-requires
 dispatch-requires c κs = search needs
