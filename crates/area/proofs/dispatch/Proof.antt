@@ -3,6 +3,7 @@ use native.Mathlib.Omega.{arith}
 use mathlib.Core.Path.{refl}
 use Rattle.model.specs.Queue.Queue.{ready}
 use Rattle.area.proofs.Puts.{becomes-then}
+use Rattle.area.proofs.Whole.{counts-in}
 use Rattle.area.proofs.Fields.{first-process, first-small, dispatch-none, dispatch-first}
 use borrow.Author.Needs.{needs}
 use Rattle.area.proofs.dispatch.Statement.{statement}
@@ -15,7 +16,10 @@ first-in-requires : tie.Need-first-in-requires
 first-in-requires c κs = (c .before .before .before .pre, (ready, refl, c .before .ready-at .ensures (c .before .before .before .args .shape)))
 
 set-running-requires : tie.Need-set-running-requires
-set-running-requires c κs = (c .before .before .before .before .before .pre, first-small (c .before .before .before .before .before .pre .1) ready (c .before .first-in .ensures (c .before .before .before .before .before .pre .0) ready (c .before .before .before .before .before .pre .1) refl (c .before .before .before .ready-at .ensures (c .before .before .before .before .before .args .shape))))
+set-running-requires c κs =
+    let H = c .before .before .before .before .before .pre .1 in
+    let f = c .before .first-in .ensures _ ready H refl (c .before .before .before .ready-at .ensures (c .before .before .before .before .before .args .shape)) in
+    (c .before .before .before .before .before .pre, omega (arith, first-small H ready f, counts-in (c .before .before .before .before .before .args .shape) (H .placed .counts) .some))
 
 same-length : tie.Need-same-length
 same-length c = search needs
