@@ -9,3 +9,4 @@ pub mod Relinks
 pub mod Fields
 pub mod Tries
 pub mod Moves
+pub mod Lining

@@ -1,46 +1,35 @@
--- Start's words: cleared, with the counts and then the priorities written, they are those of the fresh fields with nobody in a queue; each
--- process that joins ready makes one move of the model; and when all have joined each stands in one ring, once, so the words are the ones
--- that the started state prescribes. By induction on the processes written so far. Assumes nothing.
+-- Start's codes and words: cleared, and with the counts written, the words are those of the fresh fields with nobody in a queue; when the area has
+-- lined everybody up they are the ones that the started state prescribes. Assumes nothing.
 use Prim.Native.Nat.{ℕ, zero, suc, _+_, _*_, _≤_, _<_}
 use native.Mathlib.Numerals.{add-one}
 use native.Mathlib.Decide.{ℕ-discrete}
 use native.Mathlib.Omega.{arith}
-use mathlib.Core.Path.{_≡_, refl, sym, ap, _∙_, subst, fun-ext}
-use mathlib.Core.Bool.{true, false, not, and-false, or-true, false≢true}
+use mathlib.Core.Path.{_≡_, refl, sym, ap, _∙_, subst}
+use mathlib.Core.Bool.{true, false, not, and-false, or-true}
 use mathlib.Core.Logic.{_≢_}
-use mathlib.Core.List.{List, [], _∷_, _++_}
+use mathlib.Core.List.{List, [], _∷_}
 use lib.Dec.{leb, ltb}
-use lib.ListN.{length, getD, take, drop, set, length-append, length-set, length-drop, drop-of-length-le, List·getD-append, List·getD-eq-default}
-use lib.Seq.{getD-set-same, getD-set-other, getD-take, length-take-le, take-all, take-suc, drop-cons, drop-set-lt}
+use lib.ListN.{length, getD, drop, set, length-set, drop-of-length-le}
+use lib.Seq.{getD-set-same, getD-set-other, drop-cons, drop-set-lt}
 use borrow.Author.Tests.{lt-ltb, le-ltb, eq-eqb, ne-eqb}
 use Rattle.model.specs.declared.Shape.{Shape}
 use Rattle.model.specs.declared.Answer.{Answer}
-use Rattle.model.specs.Queue.{Queue, inside, upTo, anyOf, member, remove, insert, move, toReady}
+use Rattle.model.specs.Queue.{Queue, anyOf}
 use Rattle.model.specs.Queue.Queue.{ready, park, lock, condition}
-use Rattle.model.specs.Field.{Field, priorities}
+use Rattle.model.specs.Field.{Field}
 use Rattle.model.specs.Field.Field.{clock, running, priority, timer, failed, holder, wakeup}
 use Rattle.model.specs.Rules.{counted, anyAbove, startCode, fresh}
-use Rattle.model.specs.Machine.{State, model, moves, start, refusal}
-use Rattle.model.specs.Valid.{room, Placed}
-use Rattle.model.proofs.Tests.{holds, fails, SameCase, same-case, EqCase, eqb-case, LeCase, leb-case, bounds-inside, inside-bounds, denied}
-use Rattle.model.proofs.Lists.{remove-absent, absent-count}
-use Rattle.model.proofs.Fields.{dispatch-priorities}
-use Rattle.model.proofs.Good.{each-low}
-use Rattle.model.proofs.Places.{stands-at, stands-start, falling-all, waiting-is}
-use Rattle.model.proofs.Kept.{given, fresh-bounded, start-valid}
-use Rattle.model.proofs.Loops.{start-moves}
-use Rattle.area.specs.Layout.{Part, Parts, Slot, alter, word, span, home, size, at, has, Image, Stored}
+use Rattle.model.specs.Machine.{model, start, refusal}
+use Rattle.model.proofs.Tests.{holds, fails, LeCase, leb-case}
+use Rattle.area.specs.Layout.{Part, Parts, Slot, word, span, size, at, has, Stored}
 use Rattle.area.specs.Layout.Part.{kept, tail, next, locked, waiting}
 use Rattle.area.specs.Layout.Slot.{Processes, LocksConditions, Parks, Clock, Running, Tail, Holder, Link, Flags, Timer}
 use Rattle.area.specs.State.{queues, nextIn, laid}
-use Rattle.area.specs.Holds.{Becomes, Gives}
-use Rattle.area.specs.Rings.{Rings, isRing, swap, ranks, Relinked, Joins}
+use Rattle.area.specs.Holds.{Becomes, Gives, lined}
 use Rattle.area.proofs.Addresses.{at-below}
-use Rattle.area.proofs.Stores.{alter-here, alter-away, image-ext, store, stored-then}
+use Rattle.area.proofs.Stores.{image-ext}
 use Rattle.area.proofs.Whole.{stored-write}
-use Rattle.area.proofs.Rings.{ring-ext, rings-laid}
-use Rattle.area.proofs.Records.{next-said}
-use Rattle.calls.specs.Start.{startOn, Starts, lined}
+use Rattle.calls.specs.Start.{startOn, Starts}
 
 -- ---- codes
 
@@ -194,204 +183,6 @@ module _ (n : Shape) (old ws : List ℕ) (a b c words : ℕ) (counts : counted n
         ∙ drop-set-lt (size n) ws 0 a (omega arith) ∙ subst (λ (k : ℕ). drop k ws ≡ drop k old) whole beyond;
   }
 
--- words that are as they were beyond are as many
-pub same-long : (n : Shape) (old new : List ℕ) → size n ≤ length old → size n ≤ length new → drop (size n) new ≡ drop (size n) old → length new ≡ length old
-same-long n old new a b e =
-    let c = length-drop (size n) old in
-    let d = length-drop (size n) new in
-    let f : length (drop (size n) new) ≡ length (drop (size n) old) = ap length e in
-    omega arith
-
--- ---- the priorities written
-
-take-more : (bytes : List ℕ) (k y : ℕ) → k < length bytes → y ≢ k → getD (take (suc k) bytes) y 0 ≡ getD (take k bytes) y 0
-take-more bytes k y h e = rw (take-suc bytes k 0 h) (go (leb-case (suc y) k))
-  where
-    l : length (take k bytes) ≡ k
-    l = length-take-le k bytes (omega arith)
-
-    go : LeCase (suc y) k → getD (take k bytes ++ (getD bytes k 0 ∷ [])) y 0 ≡ getD (take k bytes) y 0
-    go (holds d z) = List·getD-append (take k bytes) (getD bytes k 0 ∷ []) 0 y (omega (arith, l))
-    go (fails d z) =
-        List·getD-eq-default (take k bytes ++ (getD bytes k 0 ∷ [])) 0 (rw (length-append (take k bytes) (getD bytes k 0 ∷ []), l) (omega arith))
-        ∙ sym (List·getD-eq-default (take k bytes) 0 (omega (arith, l)))
-
-module _ (n : Shape) (bytes : List ℕ) (k : ℕ) (ok : startCode n bytes ≡ 0) (more : k < n .processes) where
-  pub rank-byte : k < length bytes
-  rank-byte = omega (arith, given n bytes ok .long)
-
-  pub rank-low : getD bytes k 0 < 8
-  rank-low = let h = fresh-bounded bytes (given n bytes ok .low) (suc k) in omega arith
-
-  pub rank-inside : inside (n .processes) (k + 1) ≡ true
-  rank-inside = bounds-inside (n .processes) (k + 1) (omega arith) (omega arith)
-
-  -- the parts when k of them are written, and the one that follows
-  abbrev ranked : Parts
-  ranked = laid n (lined (take k bytes) 0)
-
-  abbrev own : Part
-  own = kept (priority (suc k))
-
-  rank-at : (x : ℕ) → EqCase (suc k) x → alter own (getD bytes k 0) ranked (kept (priority x)) ≡ fresh (take (suc k) bytes) (priority x)
-  rank-at x (holds e z) = rw (← e) (alter-here own (getD bytes k 0) ranked ∙ sym (getD-take (suc k) bytes k 0 (omega arith)))
-  rank-at zero (fails e z) = alter-away own (kept (priority zero)) (getD bytes k 0) ranked (λ d. e (cc))
-  rank-at (suc y) (fails e z) =
-      alter-away own (kept (priority (suc y))) (getD bytes k 0) ranked (λ d. e (cc)) ∙ sym (take-more bytes k y rank-byte (λ d. e (ap suc (sym d))))
-
-  parts-at : (f : Part) → alter own (getD bytes k 0) ranked f ≡ laid n (lined (take (suc k) bytes) 0) f
-  parts-at (kept clock) = refl
-  parts-at (kept running) = refl
-  parts-at (kept (priority x)) = rank-at x (eqb-case (suc k) x)
-  parts-at (kept (timer p)) = refl
-  parts-at (kept (failed p)) = refl
-  parts-at (kept (holder l)) = refl
-  parts-at (kept (wakeup c)) = refl
-  parts-at (tail q) = refl
-  parts-at (next p) = refl
-  parts-at (locked l) = refl
-  parts-at (waiting p) = refl
-
-  -- the link is still 0, and takes its priority
-  rank-link : {ws : List ℕ} {i : ℕ} → Image n ws ranked → i ≡ at n (Link (suc k)) → Stored n ws (set ws i (getD bytes k 0 * 8192)) (laid n (lined (take (suc k) bytes) 0))
-  rank-link {ws} {i} im here =
-      let st = store n ws ranked im own (getD bytes k 0) i within rank-low here 8192 8 (getD bytes k 0 * 8192) 0 refl refl (sym was) (omega arith) in
-      record { image = image-ext n (set ws i (getD bytes k 0 * 8192)) _ (laid n (lined (take (suc k) bytes) 0)) (st .image) (λ f v. parts-at f); beyond = st .beyond }
-    where
-      within : inside (n .processes) (suc k) ≡ true
-      within = rw (add-one k) at rank-inside
-
-      none : getD (take k bytes) k 0 ≡ 0
-      none = List·getD-eq-default (take k bytes) 0 (omega (arith, length-take-le k bytes (omega (arith, rank-byte))))
-
-      was : getD ws i 0 ≡ 0
-      was = rw here (im .words (Link (suc k)) within ∙ omega (arith, none, next-none (queues n) (suc k)))
-
-  pub rank-on : {old new : List ℕ} {i v : ℕ} → Stored n old new ranked → i ≡ at n (Link (k + 1)) → v ≡ getD bytes k 0 → Stored n old (set new i (v * 8192)) (laid n (lined (take (k + 1) bytes) 0))
-  rank-on st here e = rw (e, add-one k) (stored-then st (rank-link (st .image) (rw (add-one k) at here)))
-
-pub rank-all : {n : Shape} {bytes old new : List ℕ} {k : ℕ} → startCode n bytes ≡ 0 → n .processes ≤ k → Stored n old new (laid n (lined (take k bytes) 0)) → Stored n old new (laid n (lined bytes 0))
-rank-all {n} {bytes} {old} {new} {k} ok h st =
-    subst (λ (xs : List ℕ). Stored n old new (laid n (lined xs 0))) (take-all k bytes (omega (arith, given n bytes ok .long))) st
-
--- ---- the processes come into ready
-
--- processes 1 to k have joined
-pub record Lining (n : Shape) (bytes old : List ℕ) (k : ℕ) (new : List ℕ) : Type 0 where
-  pub parts : Parts
-  pub beyond : drop (size n) new ≡ drop (size n) old
-  pub others : (f : Part) → isRing f ≡ false → parts f ≡ laid n (lined bytes 0) f
-  pub rings : Rings n new parts (lined bytes k .queues)
-
-pub line-start : {n : Shape} {bytes ws : List ℕ} → Image n ws (laid n (lined bytes 0)) → Lining n bytes ws 0 ws
-line-start {n} {bytes} im = record {
-  parts = laid n (lined bytes 0);
-  beyond = refl;
-  others = λ f h. refl;
-  rings = record {
-    image = im;
-    tails = λ q h. refl;
-    rings = λ q h. record { linked = tt; ends = refl; stand = λ x m. absurd (false≢true m); once = λ x. omega arith };
-    own = λ q x m. absurd (false≢true m);
-    one = λ q r x m l. absurd (false≢true m);
-  };
-}
-
--- who has not joined stands in no ring
-pub line-out : (pr : ℕ → ℕ) (k : ℕ) (q : Queue) → member (suc k) (moves model pr (λ q. []) (toReady (upTo k)) q) ≡ false
-line-out pr k q = denied (member (suc k) (moves model pr (λ q. []) (toReady (upTo k)) q)) (λ m.
-    let b = inside-bounds k (suc k) (stands-at k (moves model pr (λ q. []) (toReady (upTo k))) (λ p. ready) (stands-start pr k) (suc k) q m .0) in omega arith)
-
-module _ {n : Shape} {bytes old new : List ℕ} {k i : ℕ} (l : Lining n bytes old k new) (p : ℕ) (after : p ≡ suc k) (few : p ≤ n .processes) (here : i ≡ at n (Tail ready)) where
-  abbrev pr : ℕ → ℕ
-  pr = priorities (fresh bytes)
-
-  abbrev qs : Queue → List ℕ
-  qs = lined bytes k .queues
-
-  pub line-ranks : ranks (l .parts) ≡ pr
-  line-ranks = fun-ext (λ x. l .others (kept (priority x)) refl)
-
-  -- the next may join
-  abbrev pub line-joins : Joins n new i p
-  line-joins = record {
-    parts = l .parts;
-    queues = qs;
-    queue = ready;
-    rings = l .rings;
-    given = refl;
-    here = here;
-    process = bounds-inside (n .processes) p (omega arith) few;
-    out = λ q. rw after (line-out pr k q);
-    falls = rw line-ranks (falling-all pr (toReady (upTo k)) (λ q. []) (λ q. tt) ready);
-  }
-
-  joined-is : swap qs ready (insert (ranks (l .parts)) p (qs ready)) ≡ lined bytes p .queues
-  joined-is = rw (after, line-ranks) (fun-ext (λ q. go q (same-case ready q)) ∙ sym (start-moves pr (λ q. []) k))
-    where
-      stays : (q : Queue) → remove (suc k) (qs q) ≡ qs q
-      stays q = remove-absent (suc k) (qs q) (absent-count (suc k) (qs q) (line-out pr k q))
-
-      go : (q : Queue) → SameCase ready q → swap qs ready (insert pr (suc k) (qs ready)) q ≡ move pr qs (suc k) ready q
-      go q (holds e z) = rw (z, ← e, stays ready)
-      go q (fails e z) = rw (z, stays q)
-
-  -- and then has joined
-  pub line-on : {next : List ℕ} (j : ℕ) → j ≡ p → Relinked n new next (l .parts) qs ready (insert (ranks (l .parts)) p (qs ready)) → Lining n bytes old j next
-  line-on {next} j e r = rw e record {
-    parts = r .parts;
-    beyond = r .stored .beyond ∙ l .beyond;
-    others = λ f h. r .others f h ∙ l .others f h;
-    rings = subst (λ (g : Queue → List ℕ). Rings n next (r .parts) g) joined-is (r .rings);
-  }
-
--- all have joined
-module _ {n : Shape} {bytes old new : List ℕ} {k : ℕ} (ok : startCode n bytes ≡ 0) (all : k ≡ n .processes) (l : Lining n bytes old k new) where
-  abbrev lined-up : State model
-  lined-up = lined bytes (n .processes)
-
-  fresh-range : (f : Field) → fresh bytes f < room n f
-  fresh-range clock = omega arith
-  fresh-range running = omega arith
-  fresh-range (priority p) =
-      subst (λ (pr : ℕ → ℕ). pr p < room n (priority p)) (dispatch-priorities (lined-up .queues ready) (fresh bytes)) (start-valid n bytes ok .placed .range (priority p))
-  fresh-range (timer p) = each-low (n .processes) p 65536 0 (omega arith) (λ e. refl)
-  fresh-range (failed p) = each-low (n .processes) p 2 0 (omega arith) (λ e. refl)
-  fresh-range (holder h) = each-low (n .locks) h (suc (n .processes)) 0 (omega arith) (λ e. refl)
-  fresh-range (wakeup c) = each-low (n .conditions) c 2 0 (omega arith) (λ e. refl)
-
-  lined-placed : Placed n lined-up
-  lined-placed = record {
-    counts = given n bytes ok .counts;
-    range = fresh-range;
-    place = λ p. ready;
-    real = λ p h. refl;
-    once = stands-start (priorities (fresh bytes)) (n .processes);
-    falls = falling-all (priorities (fresh bytes)) (toReady (upTo (n .processes))) (λ q. []) (λ q. tt);
-  }
-
-  full : Rings n new (l .parts) (lined-up .queues)
-  full = subst (λ (j : ℕ). Rings n new (l .parts) (lined bytes j .queues)) all (l .rings)
-
-  -- nobody waits
-  waits-none : (x : ℕ) → laid n (lined bytes 0) (waiting x) ≡ laid n lined-up (waiting x)
-  waits-none x =
-      rw (any-none (n .conditions), waiting-is n (lined-up .queues) (λ p. ready) (stands-start (priorities (fresh bytes)) (n .processes)) x (λ h. refl), and-false)
-
-  lined-parts : (f : Part) → has n (home f) ≡ true → l .parts f ≡ laid n lined-up f
-  lined-parts (kept f) h = l .others (kept f) refl
-  lined-parts (tail q) h = full .tails q h
-  lined-parts (next x) h = rings-laid n lined-up lined-placed (λ y. l .parts (next y))
-      (λ q v. ring-ext _ (λ y. l .parts (next y)) (lined-up .queues q) (λ y m. next-said n new (l .parts) (full .image) y (full .own q y m)) (full .rings q v .linked)) x h
-  lined-parts (locked m) h = l .others (locked m) refl
-  lined-parts (waiting x) h = l .others (waiting x) refl ∙ waits-none x
-
-  pub line-all : Becomes n old new (lined bytes (n .processes))
-  line-all = record {
-    holds = record { placed = lined-placed; image = image-ext n new (l .parts) (laid n lined-up) (full .image) lined-parts };
-    beyond = l .beyond;
-  }
-
 -- ---- Start
 
 module _ (n : Shape) (bytes old : List ℕ) where
@@ -413,14 +204,14 @@ module _ (n : Shape) (bytes old : List ℕ) where
       on : startOn n bytes (length old) ≡ 5
       on = rw (eq-eqb (startCode n bytes) 0 e, lt-ltb (length old) (size n) h)
 
-  pub accepts-start : {ws₁ ws₂ ws₃ new : List ℕ} {t u : Parts} {a : Answer} → startCode n bytes ≡ 0 → size n ≤ length old
-      → Stored n old ws₁ t → Stored n ws₁ ws₂ u → Becomes n ws₂ ws₃ (lined bytes (n .processes)) → Gives n ws₃ new a (start model n bytes) → Starts n bytes old new a
-  accepts-start {ws₁} {ws₂} {ws₃} {new} {t} {u} {a} e h x y z g = record {
+  pub accepts-start : {ws₁ ws₂ new : List ℕ} {t : Parts} {a : Answer} → startCode n bytes ≡ 0 → size n ≤ length old
+      → Stored n old ws₁ t → Becomes n ws₁ ws₂ (lined bytes (n .processes)) → Gives n ws₂ new a (start model n bytes) → Starts n bytes old new a
+  accepts-start {ws₁} {ws₂} {new} {t} {a} e h x y g = record {
     refused = λ k. absurd (k on);
     accepted = λ k. (
       g .answer,
       stored-write n old new (start model n bytes .0)
-          record { image = g .becomes .holds .image; beyond = g .becomes .beyond ∙ z .beyond ∙ y .beyond ∙ x .beyond },
+          record { image = g .becomes .holds .image; beyond = g .becomes .beyond ∙ y .beyond ∙ x .beyond },
     );
   }
     where

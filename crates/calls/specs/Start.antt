@@ -3,15 +3,13 @@ use Prim.Native.Nat.{ℕ}
 use mathlib.Core.Path.{_≡_}
 use mathlib.Core.Logic.{_≢_}
 use mathlib.Core.Bool.{cond}
-use mathlib.Core.List.{List, []}
+use mathlib.Core.List.{List}
 use lib.Dec.{eqb, ltb}
 use lib.ListN.{length}
 use Rattle.model.specs.declared.Shape.{Shape}
 use Rattle.model.specs.declared.Answer.{Answer}
-use Rattle.model.specs.Queue.{upTo, toReady}
-use Rattle.model.specs.Field.{priorities}
-use Rattle.model.specs.Rules.{startCode, fresh}
-use Rattle.model.specs.Machine.{State, model, moves, start, refusal}
+use Rattle.model.specs.Rules.{startCode}
+use Rattle.model.specs.Machine.{model, start, refusal}
 use Rattle.area.specs.Layout.{size}
 use Rattle.area.specs.State.{write}
 
@@ -23,7 +21,3 @@ startOn n bytes words = cond (eqb (startCode n bytes) 0) (cond (ltb words (size 
 pub record Starts (n : Shape) (bytes old new : List ℕ) (a : Answer) : Type 0 where
   pub refused : startOn n bytes (length old) ≢ 0 → (a ≡ refusal (startOn n bytes (length old))) × (new ≡ old)
   pub accepted : startOn n bytes (length old) ≡ 0 → (a ≡ (start model n bytes) .1) × (new ≡ write n ((start model n bytes) .0) old)
-
--- on the way there, before dispatch: the fields are fresh, and processes 1 to k have come into ready
-abbrev pub lined : List ℕ → ℕ → State model
-lined bytes k = record { fields = fresh bytes; queues = moves model (priorities (fresh bytes)) (λ q. []) (toReady (upTo k)) }

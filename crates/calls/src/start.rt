@@ -4,24 +4,21 @@ use model::Answer;
 use model::Shape;
 ghost use mathlib.Core.Path.{_≡_};
 ghost use mathlib.Core.Bool.{true};
-ghost use mathlib.Core.List.{List, []};
+ghost use mathlib.Core.List.{[]};
 ghost use Prim.Native.Nat.{ℕ, _<_, _≤_};
 ghost use lib.ListN.{length, getD, drop};
 ghost use Rattle.model.specs.declared.Shape.{Shape};
 ghost use Rattle.model.specs.Rules.{counted, anyAbove, startCode};
-ghost use Rattle.area.specs.Layout.{size, Image, Stored};
+ghost use Rattle.area.specs.Layout.{size, Stored};
 ghost use Rattle.area.specs.State.{laid};
-ghost use Rattle.area.specs.Holds.{Becomes};
-ghost use Rattle.calls.specs.Start.{Starts, lined};
+ghost use Rattle.area.specs.Holds.{lined};
+ghost use Rattle.calls.specs.Start.{Starts};
 
 // The words of a record.
 const RECORD: usize = 3;
 
 // The highest priority.
 const HIGHEST: u16 = 7;
-
-// A link's priority counts in steps of this many.
-const PRIORITY_UNIT: u16 = 8192;
 
 // ---- codes
 
@@ -113,33 +110,6 @@ fn count_out(area: &mut [u16], shape: Shape)
     area[2] = shape.parks * 4096;
 }
 
-// Each process takes its priority: its link is that alone.
-fn rank(area: &mut [u16], shape: Shape, priorities: &[u8])
-    requires { ⌜ startCode shape (now priorities) ≡ 0 ⌝ }
-    requires { ⌜ Image shape (now area) (laid shape (lined [] 0)) ⌝ }
-    ensures { λ _. ⌜ Stored shape (now (area .entry)) (now (area .exit)) (laid shape (lined (now (priorities .entry)) 0)) ⌝ }
-{
-    let mut p: u16 = 0;
-    while p < shape.processes {
-        let v = wide(priorities[p as usize]);
-        p += 1;
-        let i = area::record_at(shape, p);
-        area[i] = v * PRIORITY_UNIT;
-    }
-}
-
-// Every process comes into ready, 1 first.
-fn line_up(area: &mut [u16], shape: Shape)
-    requires { ⌜ ((bytes : List ℕ) × (startCode shape bytes ≡ 0) × Image shape (now area) (laid shape (lined bytes 0))) ⌝ }
-    ensures { λ _. ⌜ ((bytes : List ℕ) → startCode shape bytes ≡ 0 → Image shape (now (area .entry)) (laid shape (lined bytes 0)) → Becomes shape (now (area .entry)) (now (area .exit)) (lined bytes (shape .processes))) ⌝ }
-{
-    let mut p: u16 = 1;
-    while p <= shape.processes {
-        area::put_in(area, shape, area::ready_at(), p);
-        p += 1;
-    }
-}
-
 // ---- Start
 
 pub fn start(area: &mut [u16], shape: Shape, priorities: &[u8]) -> Answer
@@ -153,7 +123,6 @@ pub fn start(area: &mut [u16], shape: Shape, priorities: &[u8]) -> Answer
         return answers::refusal(5);
     }
     count_out(area, shape);
-    rank(area, shape, priorities);
-    line_up(area, shape);
+    area::line_up(area, shape, priorities);
     answers::finish(area, shape, 0, 0)
 }

@@ -288,7 +288,7 @@ pub fresh-bounded : (bytes : List ℕ) → anyAbove 7 bytes ≡ false → Bounde
 fresh-bounded bytes e zero = omega arith
 fresh-bounded bytes e (suc p) = getD-low bytes p e
 
-fresh-range : (n : Shape) (bytes : List ℕ) → Given n bytes → (f : Field) → fresh bytes f < room n f
+pub fresh-range : (n : Shape) (bytes : List ℕ) → Given n bytes → (f : Field) → fresh bytes f < room n f
 fresh-range n bytes h clock = omega arith
 fresh-range n bytes h running = omega arith
 fresh-range n bytes h (priority p) = let k = fresh-bounded bytes (h .low) p in each-low (n .processes) p 8 (fresh bytes (priority p)) (omega arith) (stray p)

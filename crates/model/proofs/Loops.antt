@@ -1,7 +1,7 @@
 -- What code that performs moves one by one needs: what each move leaves of the queues, and how many arrive. By induction on the moves. Assumes nothing.
-use Prim.Native.Nat.{ℕ, suc, _+_, _≤_, _<_}
+use Prim.Native.Nat.{ℕ, zero, suc, _+_, _≤_, _<_}
 use native.Mathlib.Omega.{arith}
-use mathlib.Core.Path.{_≡_, refl, sym, _∙_}
+use mathlib.Core.Path.{_≡_, refl, sym, ap, _∙_}
 use mathlib.Core.Logic.{_≢_}
 use mathlib.Core.Bool.{Bool, true, false, _&&_, cond, and-false, true≢false}
 use mathlib.Core.List.{List, [], _∷_, _++_, append-nil}
@@ -10,15 +10,17 @@ use lib.ListN.{length}
 use Rattle.model.specs.declared.Shape.{Shape}
 use Rattle.model.specs.Queue.{Queue, upTo, inside, same, member, count, firstOnly, filter, remove, insert, move, toReady}
 use Rattle.model.specs.Queue.Queue.{ready, lock}
+use Rattle.model.specs.Ledger.{byPriority}
 use Rattle.model.specs.Field.{Fields, put, some}
 use Rattle.model.specs.Field.Field.{timer}
 use Rattle.model.specs.Rules.{calm, released, due}
 use Rattle.model.specs.Machine.{State, model, moves, arrivals, waiting}
 use Rattle.model.specs.Valid.{Valid}
-use Rattle.model.proofs.Tests.{not-so, eqb-case, eqb-yes, same-case, stops, same-yes, and-split, not-true, bit-small, inside-bounds}
-use Rattle.model.proofs.Lists.{remove-append, count-append, remove-absent, absent-count, member-here, member-there, firstOnly-member, filter-member, upTo-member}
+use Rattle.model.proofs.Tests.{not-so, eqb-case, eqb-yes, same-case, stops, same-yes, and-split, not-true, denied, bit-small, inside-bounds}
+use Rattle.model.proofs.Lists.{remove-append, count-append, remove-absent, absent-count, member-here, member-there, nobody, firstOnly-member, filter-member, upTo-member}
 use Rattle.model.proofs.Fields.{calm-other}
-use Rattle.model.proofs.Places.{sent, moves-append, toReady-append, Stands, stands-move, stands-at, waiting-is}
+use Rattle.model.proofs.Notes.{by-snoc}
+use Rattle.model.proofs.Places.{sent, moves-append, toReady-append, Stands, stands-move, stands-at, stands-start, waiting-is}
 
 -- ---- one move
 
@@ -88,8 +90,30 @@ module _ (P : ℕ) (qs : Queue → List ℕ) (place : ℕ → Queue) (h : Stands
 
 -- ---- Start's and Tick's loops: process k + 1 after processes 1 to k
 
-pub start-moves : (pr : ℕ → ℕ) (qs : Queue → List ℕ) (k : ℕ) → moves model pr qs (toReady (upTo (suc k))) ≡ move pr (moves model pr qs (toReady (upTo k))) (suc k) ready
+start-moves : (pr : ℕ → ℕ) (qs : Queue → List ℕ) (k : ℕ) → moves model pr qs (toReady (upTo (suc k))) ≡ move pr (moves model pr qs (toReady (upTo k))) (suc k) ready
 start-moves pr qs k = rw (toReady-append (upTo k) (suc k ∷ []), moves-append pr (toReady (upTo k)) ((suc k, ready) ∷ []) qs)
+
+-- Start's queues when processes 1 to k have come into ready, which nobody else does
+module _ (pr : ℕ → ℕ) (k : ℕ) where
+  abbrev come : Queue → List ℕ
+  come = moves model pr (λ q. []) (toReady (upTo k))
+
+  start-out : (q : Queue) → member (suc k) (come q) ≡ false
+  start-out q = denied (member (suc k) (come q))
+      (λ m. let b = inside-bounds k (suc k) (stands-at k come (λ p. ready) (stands-start pr k) (suc k) q m .0) in omega arith)
+
+  pub start-others : (q : Queue) → ready ≢ q → come q ≡ []
+  start-others q o = nobody (come q) (λ p. denied (member p (come q)) (λ m. o (stands-at k come (λ p. ready) (stands-start pr k) p q m .1)))
+
+-- they stand there by falling priority, and equals in order
+pub start-ready : (pr : ℕ → ℕ) → ((p : ℕ) → pr p ≤ 7) → (k : ℕ) → moves model pr (λ q. []) (toReady (upTo k)) ready ≡ byPriority pr 7 (upTo k)
+start-ready pr h zero = refl
+start-ready pr h (suc k) =
+    let qs = moves model pr (λ q. []) (toReady (upTo k)) in
+    ap (λ (f : Queue → List ℕ). f ready) (start-moves pr (λ q. []) k)
+    ∙ move-to pr qs (suc k) ready
+    ∙ ap (insert pr (suc k)) (remove-absent (suc k) (qs ready) (absent-count (suc k) (qs ready) (start-out pr k ready)) ∙ start-ready pr h k)
+    ∙ sym (by-snoc pr 7 (suc k) (upTo k) (h (suc k)))
 
 filter-append : (t : ℕ → Bool) (xs ys : List ℕ) → filter t (xs ++ ys) ≡ filter t xs ++ filter t ys
 filter-append t [] ys = refl

@@ -56,7 +56,7 @@ lying-snoc r p q ns = rw (newest-snoc p q ns, sentTo-append r (without p (newest
 
 -- ---- by falling priority
 
-of-append : (pr : ℕ → ℕ) (v : ℕ) (xs ys : List ℕ) → ofPriority pr v (xs ++ ys) ≡ ofPriority pr v xs ++ ofPriority pr v ys
+pub of-append : (pr : ℕ → ℕ) (v : ℕ) (xs ys : List ℕ) → ofPriority pr v (xs ++ ys) ≡ ofPriority pr v xs ++ ofPriority pr v ys
 of-append pr v [] ys = refl
 of-append pr v (x ∷ xs) ys = rw (of-append pr v xs ys) (go (eqb (pr x) v))
   where
@@ -110,7 +110,7 @@ by-high pr (suc v) p xs h =
     rw (of-append pr (suc v) xs (p ∷ []), eqb-no (pr p) (suc v) (omega arith), append-nil (ofPriority pr (suc v) xs), by-high pr v p xs (omega arith))
 
 -- a newcomer at the end of the notes is a newcomer of the queue
-by-snoc : (pr : ℕ → ℕ) (v p : ℕ) (xs : List ℕ) → pr p ≤ v → byPriority pr v (xs ++ (p ∷ [])) ≡ insert pr p (byPriority pr v xs)
+pub by-snoc : (pr : ℕ → ℕ) (v p : ℕ) (xs : List ℕ) → pr p ≤ v → byPriority pr v (xs ++ (p ∷ [])) ≡ insert pr p (byPriority pr v xs)
 by-snoc pr zero p xs h =
     rw (of-append pr zero xs (p ∷ []), eqb-yes (pr p) zero (omega arith), ← (insert-skip pr p (ofPriority pr zero xs) [] (of-all pr zero xs (λ x. pr p ≤ pr x) (λ x e. omega arith))), append-nil)
 by-snoc pr (suc v) p xs h = go (eqb-case (pr p) (suc v)) (λ k. by-snoc pr v p xs k)
@@ -169,7 +169,7 @@ lying-count p q (m ∷ ms) = go (noted (m .0) ms) refl (eqb-case (m .0) p) (lyin
     go false e (holds d z) ih = let w : noted p ms ≡ false = rw d at e in rw (e, z, w) (one (same (m .1) q) z (rw w at ih))
     go false e (fails d z) ih = rw (e, z) (none (same (m .1) q) z ∙ ih ∙ newest-only (noted p ms) (lies ms p) (m .1) q)
 
-of-count : (pr : ℕ → ℕ) (v p : ℕ) (xs : List ℕ) → count p (ofPriority pr v xs) ≡ cond (eqb (pr p) v) (count p xs) 0
+pub of-count : (pr : ℕ → ℕ) (v p : ℕ) (xs : List ℕ) → count p (ofPriority pr v xs) ≡ cond (eqb (pr p) v) (count p xs) 0
 of-count pr v p [] = go (eqb (pr p) v)
   where
     go : (b : Bool) → _≡_ {A = ℕ} 0 (cond b 0 0)
@@ -183,11 +183,11 @@ of-count pr v p (x ∷ xs) = go (eqb-case x p) (eqb (pr x) v) refl (of-count pr 
     go (fails d z) true e ih = rw (e, z) (simp zero-add ih)
     go (fails d z) false e ih = rw (e, z) (simp zero-add ih)
 
-by-count-high : (pr : ℕ → ℕ) (v p : ℕ) (xs : List ℕ) → v < pr p → count p (byPriority pr v xs) ≡ 0
+pub by-count-high : (pr : ℕ → ℕ) (v p : ℕ) (xs : List ℕ) → v < pr p → count p (byPriority pr v xs) ≡ 0
 by-count-high pr zero p xs h = of-count pr zero p xs ∙ rw (eqb-no (pr p) 0 (omega arith))
 by-count-high pr (suc v) p xs h = rw (count-append p (ofPriority pr (suc v) xs) (byPriority pr v xs), of-count pr (suc v) p xs, eqb-no (pr p) (suc v) (omega arith), by-count-high pr v p xs (omega arith))
 
-by-count : (pr : ℕ → ℕ) (v p : ℕ) (xs : List ℕ) → pr p ≤ v → count p (byPriority pr v xs) ≡ count p xs
+pub by-count : (pr : ℕ → ℕ) (v p : ℕ) (xs : List ℕ) → pr p ≤ v → count p (byPriority pr v xs) ≡ count p xs
 by-count pr zero p xs h = of-count pr zero p xs ∙ rw (eqb-yes (pr p) 0 (omega arith))
 by-count pr (suc v) p xs h = rw (count-append p (ofPriority pr (suc v) xs) (byPriority pr v xs), of-count pr (suc v) p xs) (go (eqb-case (pr p) (suc v)) (λ k. by-count pr v p xs k))
   where

@@ -3,8 +3,6 @@ use native.Mathlib.Omega.{arith}
 use mathlib.Core.Path.{_≡_, sym, _∙_}
 use Rattle.model.specs.Rules.{startCode}
 use Rattle.model.proofs.Kept.{given}
-use Rattle.area.specs.Holds.{Becomes}
-use Rattle.calls.specs.Start.{lined}
 use Rattle.calls.proofs.Started.{refuses-code, refuses-short, accepts-start}
 use borrow.Author.Needs.{needs}
 use Rattle.calls.proofs.start.start.Statement.{statement}
@@ -44,25 +42,11 @@ count-out-requires c κs =
     let s = z .before .before .before .before .before .args in
     (given (s .shape) (s .priorities .now) (ok z) .counts, omega (arith, z .size-of .ensures, c .before .if2 .left))
 
-rank-requires : tie.Need-rank-requires
-rank-requires c κs = let w = c .before .before .before in (ok (w .before .before .before), w .count-out .ensures .image)
-
 line-up-requires : tie.Need-line-up-requires
-line-up-requires c κs =
-    let r = c .before .before .before in
-    let z = r .before .before .before .before .before .before .before in
-    (z .before .before .before .before .before .args .priorities .now, ok z, r .rank .ensures .image)
-
--- all have come into ready
-up : (c : tie.After-line-up) → let r = c .before .before .before .before in let s = r .before .before .before .before .before .before .before .before .before .before .before .before .args in
-    Becomes (s .shape) (r .rank .last .0) (c .line-up .last .0) (lined (s .priorities .now) (s .shape .processes))
-up c =
-    let r = c .before .before .before .before in
-    let z = r .before .before .before .before .before .before .before in
-    c .line-up .ensures (z .before .before .before .before .before .args .priorities .now) (ok z) (r .rank .ensures .image)
+line-up-requires c κs = let w = c .before .before .before in (ok (w .before .before .before), w .count-out .ensures .image)
 
 finish-requires : tie.Need-finish-requires
-finish-requires c κs = (_, up (c .before .before .before) .holds)
+finish-requires c κs = (_, c .before .before .before .line-up .ensures .holds)
 
 same-length : tie.Need-same-length
 same-length c = search needs
@@ -71,12 +55,11 @@ returns-3 : tie.Need-returns-3
 returns-3 c =
     let f = c .before .before in
     let l = f .before .before .before .before in
-    let r = l .before .before .before .before in
-    let w = r .before .before .before .before in
+    let w = l .before .before .before .before in
     let z = w .before .before .before in
     let s = z .before .before .before .before .before .args in
     accepts-start (s .shape) (s .priorities .now) (s .area .now) (ok z) (omega (arith, z .size-of .ensures, w .before .before .if2 .left))
-    (w .count-out .ensures) (r .rank .ensures) (up l) (f .finish .ensures _ (up l .holds))
+    (w .count-out .ensures) (l .line-up .ensures) (f .finish .ensures _ (l .line-up .ensures .holds))
 
 pub start-spec : {M : Type 1} → statement M
 start-spec =
@@ -89,7 +72,6 @@ start-spec =
     refusal-requires-2
     returns-2
     count-out-requires
-    rank-requires
     line-up-requires
     finish-requires
     same-length
