@@ -9,4 +9,3 @@ pub mod Relinks
 pub mod Fields
 pub mod Tries
 pub mod Moves
-pub mod Lining

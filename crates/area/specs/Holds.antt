@@ -2,15 +2,14 @@
 use Prim.Native.Nat.{ℕ}
 use mathlib.Core.Path.{_≡_}
 use mathlib.Core.Bool.{Bool, true, false}
-use mathlib.Core.List.{List, []}
+use mathlib.Core.List.{List}
 use lib.ListN.{drop}
 use Rattle.model.specs.declared.Shape.{Shape}
 use Rattle.model.specs.declared.Answer.{Answer}
-use Rattle.model.specs.Queue.{Queue, bit, upTo, inside, exists, member, move, toReady}
+use Rattle.model.specs.Queue.{Queue, bit, inside, exists, member, move}
 use Rattle.model.specs.Queue.Queue.{ready}
 use Rattle.model.specs.Field.{Field, Fields, put, priorities}
-use Rattle.model.specs.Rules.{fresh}
-use Rattle.model.specs.Machine.{State, model, moves, dispatch}
+use Rattle.model.specs.Machine.{State, model, dispatch}
 use Rattle.model.specs.Valid.{Placed}
 use Rattle.model.specs.History.{isCondition}
 use Rattle.area.specs.Layout.{at, size, Image}
@@ -68,7 +67,3 @@ pub record Moves (n : Shape) (ws : List ℕ) (at-from at-to p waits : ℕ) : Typ
   pub stood : Bool
   pub stands : member p (state .queues from) ≡ stood
   pub waits-there : waits ≡ bit (isCondition to)
-
--- Start on its way, before dispatch: the fields are fresh, and processes 1 to k have come into ready
-abbrev pub lined : List ℕ → ℕ → State model
-lined bytes k = record { fields = fresh bytes; queues = moves model (priorities (fresh bytes)) (λ q. []) (toReady (upTo k)) }

@@ -2,7 +2,7 @@
 use model::Shape;
 ghost use mathlib.Core.Path.{_≡_};
 ghost use mathlib.Core.Bool.{true};
-ghost use mathlib.Core.List.{List, [], _++_};
+ghost use mathlib.Core.List.{List, _++_};
 ghost use Prim.Native.Nat.{ℕ, _+_, _*_, _/_, _%_, _<_, _≤_};
 ghost use lib.ListN.{length, drop};
 ghost use Rattle.model.specs.declared.Shape.{Shape};
@@ -10,15 +10,14 @@ ghost use Rattle.model.specs.Queue.{Queue, inside, exists, bit, remove, insert,
 ghost use Rattle.model.specs.Queue.Queue.{ready, park, lock, condition};
 ghost use Rattle.model.specs.Field.{some};
 ghost use Rattle.model.specs.Field.Field.{clock, running, priority, timer, failed, holder, wakeup};
-ghost use Rattle.model.specs.Rules.{readyOrPark, startCode};
+ghost use Rattle.model.specs.Rules.{readyOrPark};
 ghost use Rattle.model.specs.Machine.{State, model, retry};
 ghost use Rattle.model.specs.History.{isCondition};
 ghost use Rattle.area.specs.Layout.{Parts, at, recordsAt, size, alter, Image, Stored};
 ghost use Rattle.area.specs.Layout.Part.{kept, waiting};
 ghost use Rattle.area.specs.Layout.Slot.{Tail, Link};
-ghost use Rattle.area.specs.State.{laid};
 ghost use Rattle.area.specs.Reading.{shapeOf};
-ghost use Rattle.area.specs.Holds.{Holds, Held, Becomes, Tried, Moves, with, sent, dispatched, lined};
+ghost use Rattle.area.specs.Holds.{Holds, Held, Becomes, Tried, Moves, with, sent, dispatched};
 ghost use Rattle.area.specs.Rings.{Rings, Leaves, Joins, Relinked, ranks};
 
 pub mod answers;
@@ -363,17 +362,6 @@ pub fn send(area: &mut [u16], shape: Shape, from: usize, to: usize, p: u16, wait
 {
     let v = priority_of(area, shape, p);
     move_process(area, shape, from, to, p, v, waits)
-}
-
-// Every process takes its priority and comes into ready, 1 first.
-pub fn line_up(area: &mut [u16], shape: Shape, priorities: &[u8])
-    requires { ⌜ startCode shape (now priorities) ≡ 0 ⌝ }
-    requires { ⌜ Image shape (now area) (laid shape (lined [] 0)) ⌝ }
-    ensures { λ _. ⌜ Becomes shape (now (area .entry)) (now (area .exit)) (lined (now (priorities .entry)) (shape .processes)) ⌝ }
-{
-    let at = records_at(shape);
-    let tail = ring::bands::gather(&mut area[at..], priorities);
-    area[READY] = tail * NUMBER_UNIT;
 }
 
 // ---- dispatch

@@ -7,5 +7,4 @@ pub mod Ranking
 pub mod Waking
 pub mod Requeues
 pub mod Ticking
-pub mod Started
 pub mod QueueBy

@@ -4,6 +4,5 @@ pub mod listing;
 pub mod locks;
 pub mod parks;
 pub mod ranks;
-pub mod start;
 pub mod waits;
 pub mod wakes;

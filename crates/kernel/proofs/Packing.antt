@@ -18,7 +18,7 @@ use Rattle.area.specs.Layout.{size}
 use Rattle.area.specs.Reading.{shapeOf, stateOf}
 use Rattle.area.specs.Sound.{Sound}
 use Rattle.area.proofs.Whole.{Counts, counts-in}
-use Rattle.calls.specs.Start.{startOn, Starts}
+use Rattle.start.specs.Start.{startOn, Starts}
 use Rattle.calls.specs.declared.listing.Listed.{Listed}
 use Rattle.calls.specs.Listing.{queueBy, isQueue}
 use Rattle.monitor.specs.Calls.{Performs, ListsOn}

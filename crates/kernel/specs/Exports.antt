@@ -11,7 +11,7 @@ use Rattle.model.specs.Machine.{State, model, step, start, refusal}
 use Rattle.area.specs.State.{write}
 use Rattle.area.specs.Reading.{shapeOf, stateOf}
 use Rattle.area.specs.Sound.{Sound}
-use Rattle.calls.specs.Start.{startOn}
+use Rattle.start.specs.Start.{startOn}
 use Rattle.calls.specs.Listing.{queueBy, isQueue}
 use Rattle.monitor.specs.Wire.{Carries, CarriesList}
 

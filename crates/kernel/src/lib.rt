@@ -25,7 +25,7 @@ pub extern "C" fn kernel_start(
         conditions: conditions,
         parks: parks,
     };
-    monitor::pack(calls::start::start(area, shape, priorities))
+    monitor::pack(start::start(area, shape, priorities))
 }
 
 #[no_mangle]

@@ -31,7 +31,7 @@ use Rattle.area.specs.Reading.{shapeOf, partsOf, stateOf}
 use Rattle.area.specs.Sound.{Says, Sound}
 use Rattle.area.proofs.Whole.{write-image, image-shape}
 use Rattle.area.proofs.States.{laid-spans, state-read, state-says, image-sound}
-use Rattle.calls.specs.Start.{startOn, Starts}
+use Rattle.start.specs.Start.{startOn, Starts}
 use Rattle.monitor.specs.Calls.{Performs}
 use Rattle.monitor.specs.History.{Run, Ends}
 use Rattle.monitor.specs.History.Run.{none, then}

@@ -13,7 +13,7 @@ use Rattle.model.specs.declared.Shape.{Shape}
 use Rattle.model.specs.declared.Call.{Call}
 use Rattle.model.specs.declared.Call.the-variants.{Enter, Exit, Wait, Notify, Broadcast, Naked, Requeue, SetPriority, Tick}
 use Rattle.model.specs.declared.Answer.{Answer}
-use Rattle.calls.specs.Start.{startOn, Starts}
+use Rattle.start.specs.Start.{startOn, Starts}
 use Rattle.monitor.specs.declared.replay.Record.{Record}
 use Rattle.monitor.specs.declared.replay.Record.the-variants.{Made, Malformed}
 use Rattle.monitor.specs.Calls.{Performs}

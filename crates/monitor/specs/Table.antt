@@ -16,7 +16,7 @@ use Rattle.model.specs.Table.{Kernel, Row, Holds, one, sample, bytes, table}
 use Rattle.area.specs.Layout.{size, slots}
 use Rattle.area.specs.State.{write}
 use Rattle.area.specs.Reading.{shapeOf, stateOf}
-use Rattle.calls.specs.Start.{startOn}
+use Rattle.start.specs.Start.{startOn}
 
 -- ---- the contracts, as functions of the words
 

@@ -7,7 +7,7 @@ use lib.ListN.{length, take, set}
 use Rattle.model.specs.declared.Answer.{Answer}
 use Rattle.model.specs.declared.Call.{Call}
 use Rattle.model.specs.declared.Shape.{Shape}
-use Rattle.calls.specs.Start.{Starts}
+use Rattle.start.specs.Start.{Starts}
 use Rattle.monitor.specs.Calls.{Performs}
 use Rattle.script.specs.declared.read.Parsed.{Parsed}
 use Rattle.script.specs.declared.read.Parsed.the-variants as parsed

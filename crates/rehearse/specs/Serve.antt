@@ -3,7 +3,7 @@ use Prim.Native.Nat.{ℕ, _≤_}
 use mathlib.Core.Path.{_≡_}
 use mathlib.Core.List.{List, [], _∷_}
 use Rattle.model.specs.declared.Answer.{Answer}
-use Rattle.calls.specs.Start.{Starts}
+use Rattle.start.specs.Start.{Starts}
 use Rattle.monitor.specs.Calls.{Performs}
 use Rattle.script.specs.Line.{Meaning}
 use Rattle.script.specs.Line.Meaning.{call, start, none}

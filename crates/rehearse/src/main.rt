@@ -32,7 +32,7 @@ fn serve(
             script::print(answer, out)
         }
         Parsed::Start(shape, count) => {
-            let answer = calls::start::start(area, shape, &bytes[..count]);
+            let answer = start::start(area, shape, &bytes[..count]);
             script::print(answer, out)
         }
         Parsed::Nothing => {

@@ -1,3 +1,2 @@
 pub mod Link
 pub mod Ring
-pub mod Bands
