@@ -11,7 +11,7 @@
 
 LIB = target/staticlib/libkernel.a
 CFLAGS = -std=c11 -Wall -Wextra -O2
-TESTS = cargo run --quiet --release --manifest-path tests/Cargo.toml --features calls,list,rehearse --
+TESTS = cargo run --quiet --release --manifest-path tests/Cargo.toml --
 SECONDS ?= 60
 SCRIPT ?= examples/script.txt
 PREFIX ?= /usr/local

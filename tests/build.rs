@@ -5,8 +5,9 @@ use std::env;
 use std::path::{Path, PathBuf};
 use std::process::Command;
 
-const START: [&str; 2] = ["kernel_start", "kernel_sound"];
-const CALLS: [&str; 9] = [
+const EXPORTS: [&str; 12] = [
+    "kernel_start",
+    "kernel_sound",
     "kernel_enter",
     "kernel_exit",
     "kernel_wait",
@@ -16,20 +17,17 @@ const CALLS: [&str; 9] = [
     "kernel_requeue",
     "kernel_set_priority",
     "kernel_tick",
+    "kernel_list",
 ];
-const LIST: [&str; 1] = ["kernel_list"];
 
 fn main() {
     println!("cargo:rerun-if-changed=build.rs");
     println!("cargo:rerun-if-env-changed=KERNEL_LIB_DIR");
-    if env::var_os("CARGO_FEATURE_START").is_none() {
-        return;
-    }
     let library = library();
     println!("cargo:rerun-if-changed={}", library.display());
     assert!(library.exists(), "no library at {}", library.display());
     let out = folder("OUT_DIR");
-    isolate(&library, &out.join("kernel.o"), &exports());
+    isolate(&library, &out.join("kernel.o"));
     println!("cargo:rustc-link-arg={}", out.join("kernel.o").display());
 }
 
@@ -42,23 +40,12 @@ fn library() -> PathBuf {
     folder("CARGO_MANIFEST_DIR").join(given).join("libkernel.a")
 }
 
-fn exports() -> Vec<&'static str> {
-    let mut names = START.to_vec();
-    if env::var_os("CARGO_FEATURE_CALLS").is_some() {
-        names.extend(CALLS);
-    }
-    if env::var_os("CARGO_FEATURE_LIST").is_some() {
-        names.extend(LIST);
-    }
-    names
-}
-
-fn isolate(library: &Path, object: &Path, exports: &[&str]) {
+fn isolate(library: &Path, object: &Path) {
     let mut link = Command::new("ld");
     link.args(["-r", "--force-group-allocation", "-o"])
         .arg(object);
     let mut hide = Command::new("objcopy");
-    for name in exports {
+    for name in EXPORTS {
         link.arg(format!("--require-defined={name}"));
         hide.arg(format!("--keep-global-symbol={name}"));
     }

@@ -14,10 +14,6 @@ extern "C" {
         count: usize,
     ) -> u64;
     fn kernel_sound(area: *const u16, len: usize) -> u64;
-}
-
-#[cfg(feature = "calls")]
-extern "C" {
     fn kernel_enter(area: *mut u16, len: usize, lock: u16) -> u64;
     fn kernel_exit(area: *mut u16, len: usize, lock: u16) -> u64;
     fn kernel_wait(area: *mut u16, len: usize, lock: u16, condition: u16, ticks: u16) -> u64;
@@ -33,10 +29,6 @@ extern "C" {
     ) -> u64;
     fn kernel_set_priority(area: *mut u16, len: usize, priority: u16) -> u64;
     fn kernel_tick(area: *mut u16, len: usize) -> u64;
-}
-
-#[cfg(feature = "list")]
-extern "C" {
     fn kernel_list(
         area: *const u16,
         len: usize,
@@ -51,7 +43,6 @@ pub fn sound(area: &[u16]) -> u64 {
     unsafe { kernel_sound(area.as_ptr(), area.len()) }
 }
 
-#[cfg(feature = "list")]
 pub fn list(area: &[u16], kind: u16, number: u16, buffer: &mut [u16]) -> u64 {
     unsafe {
         kernel_list(
@@ -65,42 +56,27 @@ pub fn list(area: &[u16], kind: u16, number: u16, buffer: &mut [u16]) -> u64 {
     }
 }
 
-/// Does a call; none if its export isn't tested yet.
-pub fn perform(area: &mut [u16], call: &Call) -> Option<u64> {
-    match call {
-        Call::Start {
-            processes,
-            locks,
-            conditions,
-            parks,
-            priorities,
-        } => Some(unsafe {
-            kernel_start(
-                area.as_mut_ptr(),
-                area.len(),
-                *processes,
-                *locks,
-                *conditions,
-                *parks,
+/// Does a call, and answers its packed answer.
+pub fn perform(area: &mut [u16], call: &Call) -> u64 {
+    let (words, len) = (area.as_mut_ptr(), area.len());
+    unsafe {
+        match *call {
+            Call::Start {
+                processes,
+                locks,
+                conditions,
+                parks,
+                ref priorities,
+            } => kernel_start(
+                words,
+                len,
+                processes,
+                locks,
+                conditions,
+                parks,
                 priorities.as_ptr(),
                 priorities.len(),
-            )
-        }),
-        _ => one_of_nine(area, call),
-    }
-}
-
-#[cfg(not(feature = "calls"))]
-fn one_of_nine(_: &mut [u16], _: &Call) -> Option<u64> {
-    None
-}
-
-#[cfg(feature = "calls")]
-fn one_of_nine(area: &mut [u16], call: &Call) -> Option<u64> {
-    let (words, len) = (area.as_mut_ptr(), area.len());
-    let answer = unsafe {
-        match *call {
-            Call::Start { .. } => return None,
+            ),
             Call::Enter(lock) => kernel_enter(words, len, lock),
             Call::Exit(lock) => kernel_exit(words, len, lock),
             Call::Wait {
@@ -119,6 +95,5 @@ fn one_of_nine(area: &mut [u16], call: &Call) -> Option<u64> {
             Call::SetPriority(priority) => kernel_set_priority(words, len, priority),
             Call::Tick => kernel_tick(words, len),
         }
-    };
-    Some(answer)
+    }
 }

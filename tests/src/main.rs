@@ -2,7 +2,7 @@
 //!
 //! `cargo run --release` runs every suite once with a fixed seed.
 //! `cargo run --release -- fuzz SECONDS [SEED]` repeats them with fresh seeds.
-//! KERNEL_LIB_DIR names the folder of libkernel.a; the features say which exports it has.
+//! KERNEL_LIB_DIR names the folder of libkernel.a.
 
 mod call;
 mod coverage;
@@ -10,7 +10,6 @@ mod damage;
 mod guarded;
 mod history;
 mod ledger;
-#[cfg(feature = "start")]
 mod library;
 mod random;
 mod reference;
@@ -33,19 +32,13 @@ fn suites() -> Vec<Suite> {
         ("table on reference", |tally, _| {
             suites::table::on_reference(tally)
         }),
-        #[cfg(feature = "start")]
         ("table on library", |tally, _| {
             suites::table::on_library(tally)
         }),
-        #[cfg(feature = "start")]
         ("start", suites::start::run),
-        #[cfg(feature = "start")]
         ("sound", suites::sound::run),
-        #[cfg(feature = "calls")]
         ("calls", suites::calls::run),
-        #[cfg(feature = "list")]
         ("list", suites::list::run),
-        #[cfg(feature = "rehearse")]
         ("rehearse", suites::rehearse::run),
     ]
 }

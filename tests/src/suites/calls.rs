@@ -26,7 +26,7 @@ fn compare(tally: &mut Tally, lent: &mut Guarded, call: &Call) -> Result<Answer,
     let answer = reference::perform(&mut expected, call);
     let found = library::perform(lent.slice_mut(), call);
     let place = || format!("{call:?} on {before:x?}");
-    tally.same(&found, &Some(answer.pack()), place)?;
+    tally.same(&found, &answer.pack(), place)?;
     tally.same(lent.slice(), &expected[..], place)?;
     tally.holds(lent.intact(), || format!("guard words, {}", place()))?;
     Ok(answer)

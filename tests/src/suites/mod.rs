@@ -1,19 +1,13 @@
 //! The suites by theme, and how they compare.
 
+pub mod calls;
 pub mod known;
 pub mod ledger;
-pub mod table;
-
-#[cfg(feature = "calls")]
-pub mod calls;
-#[cfg(feature = "list")]
 pub mod list;
-#[cfg(feature = "rehearse")]
 pub mod rehearse;
-#[cfg(feature = "start")]
 pub mod sound;
-#[cfg(feature = "start")]
 pub mod start;
+pub mod table;
 
 use std::fmt::Debug;
 

@@ -164,7 +164,7 @@ fn compare(
     codes[usize::from(answer.code)] += 1;
     let place = || format!("{length} words, {call:?}");
     let found = library::perform(lent.slice_mut(), &call);
-    tally.same(&found, &Some(answer.pack()), place)?;
+    tally.same(&found, &answer.pack(), place)?;
     tally.holds(lent.intact(), || format!("guard words, {}", place()))?;
     tally.same(lent.slice(), &expected[..], place)
 }
