@@ -30,13 +30,22 @@ part-write-out-end : tie.Need-part-write-out-end
 part-write-out-end c = search needs
 
 write-out-requires : tie.Need-write-out-requires
-write-out-requires c κs = let g = c .before .before .before .before .before .before .before .pre in (_, read-queue (g .2) (g .1) (g .3) (g .4) (c .before .before .before .before .records-at .ensures) (c .before .before .next-field .ensures), g .5)
+write-out-requires c κs =
+    let pre = c .before .before .before .before .before .before .before .pre in
+    let records-at = c .before .before .before .before .records-at in
+    let next-field = c .before .before .next-field in
+    let g = pre in
+    (_, read-queue (g .2) (g .1) (g .3) (g .4) (records-at .ensures) (next-field .ensures), g .5)
 
 same-length : tie.Need-same-length
 same-length c = search needs
 
 returns : tie.Need-returns
-returns c s q H ok here = c .before .before .write-out .ensures (s .queues q) (read-queue H q ok here (c .before .before .before .before .before .before .before .records-at .ensures) (c .before .before .before .before .before .next-field .ensures))
+returns c s q H ok here =
+    let records-at = c .before .before .before .before .before .before .before .records-at in
+    let next-field = c .before .before .before .before .before .next-field in
+    let write-out = c .before .before .write-out in
+    write-out .ensures (s .queues q) (read-queue H q ok here (records-at .ensures) (next-field .ensures))
 
 pub copy-out-spec : {M : Type 1} → statement M
 copy-out-spec =

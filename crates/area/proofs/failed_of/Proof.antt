@@ -14,10 +14,16 @@ mul-result : tie.Need-mul-result
 mul-result c = search needs
 
 shared-slice-read-result : tie.Need-shared-slice-read-result
-shared-slice-read-result c = below (c .before .before .before .pre .0 .1 .image) (Link (c .before .before .before .args .p)) (c .before .before .before .pre .1) (c .before .record-at .ensures)
+shared-slice-read-result c =
+    let args = c .before .before .before .args in
+    let pre = c .before .before .before .pre in
+    below (pre .0 .1 .image) (Link (args .p)) (pre .1) (c .before .record-at .ensures)
 
 returns : tie.Need-returns
-returns c = λ s H. read-field H (failed (c .before .before .before .args .p)) 4 2 (c .before .before .before .pre .1) (c .before .record-at .ensures) refl refl
+returns c s H =
+    let args = c .before .before .before .args in
+    let pre = c .before .before .before .pre in
+    read-field H (failed (args .p)) 4 2 (pre .1) (c .before .record-at .ensures) refl refl
 
 pub failed-of-spec : {M : Type 1} → statement M
 failed-of-spec =

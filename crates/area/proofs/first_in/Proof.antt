@@ -9,10 +9,15 @@ records-at-requires : tie.Need-records-at-requires
 records-at-requires c κs = search needs
 
 mul-next-field : tie.Need-mul-next-field
-mul-next-field c = let h = below (c .before .before .pre .0 .1 .image) (Tail (c .before .before .pre .1 .0)) (c .before .before .pre .1 .1) (c .before .before .pre .1 .2) in search needs
+mul-next-field c =
+    let pre = c .before .before .pre in
+    let h = below (pre .0 .1 .image) (Tail (pre .1 .0)) (pre .1 .1) (pre .1 .2) in
+    search needs
 
 shared-slice-read-next-field : tie.Need-shared-slice-read-next-field
-shared-slice-read-next-field c = below (c .before .before .before .pre .0 .1 .image) (Tail (c .before .before .before .pre .1 .0)) (c .before .before .before .pre .1 .1) (c .before .before .before .pre .1 .2)
+shared-slice-read-next-field c =
+    let pre = c .before .before .before .pre in
+    below (pre .0 .1 .image) (Tail (pre .1 .0)) (pre .1 .1) (pre .1 .2)
 
 next-field-requires : tie.Need-next-field-requires
 next-field-requires c κs = search needs
@@ -30,10 +35,16 @@ part-first-of-end : tie.Need-part-first-of-end
 part-first-of-end c = search needs
 
 first-of-requires : tie.Need-first-of-requires
-first-of-requires c κs = (_, read-queue (c .before .before .before .before .before .pre .0 .1) (c .before .before .before .before .before .pre .1 .0) (c .before .before .before .before .before .pre .1 .1) (c .before .before .before .before .before .pre .1 .2) (c .before .before .before .records-at .ensures) (c .before .next-field .ensures))
+first-of-requires c κs =
+    let pre = c .before .before .before .before .before .pre in
+    let records-at = c .before .before .before .records-at in
+    (_, read-queue (pre .0 .1) (pre .1 .0) (pre .1 .1) (pre .1 .2) (records-at .ensures) (c .before .next-field .ensures))
 
 returns : tie.Need-returns
-returns c = λ s q H ok here. c .first-of .ensures (s .queues q) (read-queue H q ok here (c .before .before .before .before .records-at .ensures) (c .before .before .next-field .ensures))
+returns c s q H ok here =
+    let records-at = c .before .before .before .before .records-at in
+    let next-field = c .before .before .next-field in
+    c .first-of .ensures (s .queues q) (read-queue H q ok here (records-at .ensures) (next-field .ensures))
 
 pub first-in-spec : {M : Type 1} → statement M
 first-in-spec =

@@ -18,13 +18,20 @@ mul-next-field : tie.Need-mul-next-field
 mul-next-field c = search needs
 
 shared-slice-read-next-field : tie.Need-shared-slice-read-next-field
-shared-slice-read-next-field c = below (c .before .before .before .pre .0 .1 .image) (Holder (c .before .before .before .args .l)) (c .before .before .before .pre .1) (ap (λ k. k + 1) (c .before .lock-at .ensures))
+shared-slice-read-next-field c =
+    let args = c .before .before .before .args in
+    let pre = c .before .before .before .pre in
+    below (pre .0 .1 .image) (Holder (args .l)) (pre .1) (ap (λ k. k + 1) (c .before .lock-at .ensures))
 
 next-field-requires : tie.Need-next-field-requires
 next-field-requires c κs = search needs
 
 returns : tie.Need-returns
-returns c = λ s H. c .next-field .ensures ∙ read-field H (holder (c .before .before .before .before .args .l)) 8 1024 (c .before .before .before .before .pre .1) (ap (λ k. k + 1) (c .before .before .lock-at .ensures)) refl refl
+returns c s H =
+    let args = c .before .before .before .before .args in
+    let pre = c .before .before .before .before .pre in
+    let lock-at = c .before .before .lock-at in
+    c .next-field .ensures ∙ read-field H (holder (args .l)) 8 1024 (pre .1) (ap (λ k. k + 1) (lock-at .ensures)) refl refl
 
 pub holder-of-spec : {M : Type 1} → statement M
 holder-of-spec =

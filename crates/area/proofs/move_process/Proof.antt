@@ -28,21 +28,30 @@ set-rank-requires c κs =
 
 put-in-requires : tie.Need-put-in-requires
 put-in-requires c κs =
-    let m = c .before .before .before .before .before .before .before .before .before .before .before .pre .0 in
-    let t = c .before .before .before .before .before .before .before .before .take-out .ensures (move-leaves m) in
-    let yes = sym (t .told) ∙ not-false (c .before .before .before .before .before .before .before .before .take-out .result) (c .before .before .before .before .before .if1 .left) in
-    move-joins m _ (c .before .before .before .before .before .before .before .before .before .before .before .pre .1) yes {ws₁ = c .before .before .before .before .before .before .before .before .take-out .last .0} {ws₂ = c .before .before .before .set-rank .last .0} (t .done yes) (c .before .before .before .set-rank .ensures)
+    let pre = c .before .before .before .before .before .before .before .before .before .before .before .pre in
+    let take-out = c .before .before .before .before .before .before .before .before .take-out in
+    let if1 = c .before .before .before .before .before .if1 in
+    let set-rank = c .before .before .before .set-rank in
+    let m = pre .0 in
+    let t = take-out .ensures (move-leaves m) in
+    let yes = sym (t .told) ∙ not-false (take-out .result) (if1 .left) in
+    move-joins m _ (pre .1) yes {ws₁ = take-out .last .0} {ws₂ = set-rank .last .0} (t .done yes) (set-rank .ensures)
 
 same-length-2 : tie.Need-same-length-2
 same-length-2 c = search needs
 
 returns-2 : tie.Need-returns-2
 returns-2 c m =
-    let t = c .before .before .before .before .before .before .before .before .before .before .before .take-out .ensures (move-leaves m) in
-    let yes = sym (t .told) ∙ not-false (c .before .before .before .before .before .before .before .before .before .before .before .take-out .result) (c .before .before .before .before .before .before .before .before .if1 .left) in
+    let pre = c .before .before .before .before .before .before .before .before .before .before .before .before .before .before .pre in
+    let take-out = c .before .before .before .before .before .before .before .before .before .before .before .take-out in
+    let if1 = c .before .before .before .before .before .before .before .before .if1 in
+    let set-rank = c .before .before .before .before .before .before .set-rank in
+    let put-in = c .before .before .put-in in
+    let t = take-out .ensures (move-leaves m) in
+    let yes = sym (t .told) ∙ not-false (take-out .result) (if1 .left) in
     did yes
-    (moved m _ (c .before .before .before .before .before .before .before .before .before .before .before .before .before .before .pre .1) yes {ws₁ = c .before .before .before .before .before .before .before .before .before .before .before .take-out .last .0} {ws₂ = c .before .before .before .before .before .before .set-rank .last .0} (t .done yes) (c .before .before .before .before .before .before .set-rank .ensures) {ws₃ = c .before .before .put-in .last .0}
-    (c .before .before .put-in .ensures (move-joins m _ (c .before .before .before .before .before .before .before .before .before .before .before .before .before .before .pre .1) yes {ws₁ = c .before .before .before .before .before .before .before .before .before .before .before .take-out .last .0} {ws₂ = c .before .before .before .before .before .before .set-rank .last .0} (t .done yes) (c .before .before .before .before .before .before .set-rank .ensures))))
+    (moved m _ (pre .1) yes {ws₁ = take-out .last .0} {ws₂ = set-rank .last .0} (t .done yes) (set-rank .ensures) {ws₃ = put-in .last .0}
+    (put-in .ensures (move-joins m _ (pre .1) yes {ws₁ = take-out .last .0} {ws₂ = set-rank .last .0} (t .done yes) (set-rank .ensures))))
 
 pub move-process-spec : {M : Type 1} → statement M
 move-process-spec =

@@ -14,10 +14,16 @@ mul-result : tie.Need-mul-result
 mul-result c = search needs
 
 shared-slice-read-result : tie.Need-shared-slice-read-result
-shared-slice-read-result c = below (c .before .before .before .pre .0 .1 .image) (Link (c .before .before .before .args .p)) (c .before .before .before .pre .1) (c .before .record-at .ensures)
+shared-slice-read-result c =
+    let args = c .before .before .before .args in
+    let pre = c .before .before .before .pre in
+    below (pre .0 .1 .image) (Link (args .p)) (pre .1) (c .before .record-at .ensures)
 
 returns : tie.Need-returns
-returns c = λ s H. read-field H (priority (c .before .before .before .args .p)) 8192 8 (c .before .before .before .pre .1) (c .before .record-at .ensures) refl refl
+returns c s H =
+    let args = c .before .before .before .args in
+    let pre = c .before .before .before .pre in
+    read-field H (priority (args .p)) 8192 8 (pre .1) (c .before .record-at .ensures) refl refl
 
 pub priority-of-spec : {M : Type 1} → statement M
 priority-of-spec =

@@ -34,22 +34,48 @@ next-field-requires : tie.Need-next-field-requires
 next-field-requires c κs = search needs
 
 join-requires : tie.Need-join-requires
-join-requires c κs = let j = c .before .before .before .before .before .pre in (joins-stands j (c .before .before .before .records-at .result) (c .next-field .result) (c .before .before .before .records-at .ensures) (c .next-field .ensures), (_, joins-ring j (c .before .before .before .records-at .result) (c .next-field .result) (c .before .before .before .records-at .ensures) (c .next-field .ensures), joins-falls j (c .before .before .before .records-at .result) (c .next-field .result) (c .before .before .before .records-at .ensures) (c .next-field .ensures), j .out (j .queue)))
+join-requires c κs =
+    let pre = c .before .before .before .before .before .pre in
+    let records-at = c .before .before .before .records-at in
+    let j = pre in
+    (joins-stands j (records-at .result) (c .next-field .result) (records-at .ensures) (c .next-field .ensures), (_, joins-ring j (records-at .result) (c .next-field .result) (records-at .ensures) (c .next-field .ensures), joins-falls j (records-at .result) (c .next-field .result) (records-at .ensures) (c .next-field .ensures), j .out (j .queue)))
 
 with-next-requires : tie.Need-with-next-requires
-with-next-requires c κs = let j = c .before .before .before .before .before .before .before .before .pre in let l = c .before .before .join .ensures _ (joins-ring j (c .before .before .before .before .before .before .records-at .result) (c .before .before .before .next-field .result) (c .before .before .before .before .before .before .records-at .ensures) (c .before .before .before .next-field .ensures)) (joins-falls j (c .before .before .before .before .before .before .records-at .result) (c .before .before .before .next-field .result) (c .before .before .before .before .before .before .records-at .ensures) (c .before .before .before .next-field .ensures)) (j .out (j .queue)) in ring-tail-small _ (l .ring)
+with-next-requires c κs =
+    let pre = c .before .before .before .before .before .before .before .before .pre in
+    let records-at = c .before .before .before .before .before .before .records-at in
+    let next-field = c .before .before .before .next-field in
+    let join = c .before .before .join in
+    let j = pre in
+    let l = join .ensures _ (joins-ring j (records-at .result) (next-field .result) (records-at .ensures) (next-field .ensures)) (joins-falls j (records-at .result) (next-field .result) (records-at .ensures) (next-field .ensures)) (j .out (j .queue)) in
+    ring-tail-small _ (l .ring)
 
 mul-area : tie.Need-mul-area
-mul-area c = let j = c .before .before .before .before .before .before .before .before .before .pre in let h = tail-again (j .queue) (c .before .before .before .before .before .before .before .records-at .result) (c .before .before .before .join .last .0) (j .rings) (j .given) (j .here) (c .before .before .before .before .before .before .before .records-at .ensures) in search needs
+mul-area c =
+    let pre = c .before .before .before .before .before .before .before .before .before .pre in
+    let records-at = c .before .before .before .before .before .before .before .records-at in
+    let join = c .before .before .before .join in
+    let j = pre in
+    let h = tail-again (j .queue) (records-at .result) (join .last .0) (j .rings) (j .given) (j .here) (records-at .ensures) in
+    search needs
 
 slice-write-area : tie.Need-slice-write-area
-slice-write-area c = let j = c .before .before .before .before .before .before .before .before .before .pre in tail-again (j .queue) (c .before .before .before .before .before .before .before .records-at .result) (c .before .before .before .join .last .0) (j .rings) (j .given) (j .here) (c .before .before .before .before .before .before .before .records-at .ensures)
+slice-write-area c =
+    let pre = c .before .before .before .before .before .before .before .before .before .pre in
+    let records-at = c .before .before .before .before .before .before .before .records-at in
+    let join = c .before .before .before .join in
+    let j = pre in
+    tail-again (j .queue) (records-at .result) (join .last .0) (j .rings) (j .given) (j .here) (records-at .ensures)
 
 same-length : tie.Need-same-length
 same-length c = search needs
 
 returns : tie.Need-returns
-returns c = λ j. joined-relinks j (c .before .before .before .before .before .before .before .records-at .result) (c .before .before .before .before .next-field .result) (c .before .before .before .before .before .before .before .records-at .ensures) (c .before .before .before .before .next-field .ensures) (c .before .before .before .join .last .0) (c .before .before .before .join .result) (c .with-next .result) (c .before .before .before .join .ensures _ (joins-ring j (c .before .before .before .before .before .before .before .records-at .result) (c .before .before .before .before .next-field .result) (c .before .before .before .before .before .before .before .records-at .ensures) (c .before .before .before .before .next-field .ensures)) (joins-falls j (c .before .before .before .before .before .before .before .records-at .result) (c .before .before .before .before .next-field .result) (c .before .before .before .before .before .before .before .records-at .ensures) (c .before .before .before .before .next-field .ensures)) (j .out (j .queue))) (c .with-next .ensures)
+returns c j =
+    let records-at = c .before .before .before .before .before .before .before .records-at in
+    let next-field = c .before .before .before .before .next-field in
+    let join = c .before .before .before .join in
+    joined-relinks j (records-at .result) (next-field .result) (records-at .ensures) (next-field .ensures) (join .last .0) (join .result) (c .with-next .result) (join .ensures _ (joins-ring j (records-at .result) (next-field .result) (records-at .ensures) (next-field .ensures)) (joins-falls j (records-at .result) (next-field .result) (records-at .ensures) (next-field .ensures)) (j .out (j .queue))) (c .with-next .ensures)
 
 pub put-in-spec : {M : Type 1} → statement M
 put-in-spec =

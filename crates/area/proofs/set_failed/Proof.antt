@@ -15,7 +15,10 @@ mul-word : tie.Need-mul-word
 mul-word c = search needs
 
 slice-read-word : tie.Need-slice-read-word
-slice-read-word c = below (c .before .before .before .pre .0 .1 .image) (Link (c .before .before .before .args .p)) (c .before .before .before .pre .1 .0) (c .before .record-at .ensures)
+slice-read-word c =
+    let args = c .before .before .before .args in
+    let pre = c .before .before .before .pre in
+    below (pre .0 .1 .image) (Link (args .p)) (pre .1 .0) (c .before .record-at .ensures)
 
 with-failed-requires : tie.Need-with-failed-requires
 with-failed-requires c κs = search needs
@@ -24,13 +27,21 @@ mul-area : tie.Need-mul-area
 mul-area c = search needs
 
 slice-write-area : tie.Need-slice-write-area
-slice-write-area c = below (c .before .before .before .before .pre .0 .1 .image) (Link (c .before .before .before .before .args .p)) (c .before .before .before .before .pre .1 .0) (c .before .before .record-at .ensures)
+slice-write-area c =
+    let args = c .before .before .before .before .args in
+    let pre = c .before .before .before .before .pre in
+    let record-at = c .before .before .record-at in
+    below (pre .0 .1 .image) (Link (args .p)) (pre .1 .0) (record-at .ensures)
 
 same-length : tie.Need-same-length
 same-length c = search needs
 
 returns : tie.Need-returns
-returns c = λ s H. write-field H (failed (c .before .before .before .before .args .p)) (c .before .before .before .before .args .value) (c .with-failed .result) 4 2 refl (c .before .before .before .before .pre .1 .0) (c .before .before .before .before .pre .1 .1) (c .before .before .record-at .ensures) refl refl (omega (arith, c .with-failed .ensures))
+returns c s H =
+    let args = c .before .before .before .before .args in
+    let pre = c .before .before .before .before .pre in
+    let record-at = c .before .before .record-at in
+    write-field H (failed (args .p)) (args .value) (c .with-failed .result) 4 2 refl (pre .1 .0) (pre .1 .1) (record-at .ensures) refl refl (omega (arith, c .with-failed .ensures))
 
 pub set-failed-spec : {M : Type 1} → statement M
 set-failed-spec =

@@ -15,7 +15,10 @@ mul-word : tie.Need-mul-word
 mul-word c = search needs
 
 slice-read-word : tie.Need-slice-read-word
-slice-read-word c = below (c .before .before .before .pre .0 .1 .image) (Tail (lock (c .before .before .before .args .l))) (c .before .before .before .pre .1 .0) (c .before .lock-at .ensures)
+slice-read-word c =
+    let args = c .before .before .before .args in
+    let pre = c .before .before .before .pre in
+    below (pre .0 .1 .image) (Tail (lock (args .l))) (pre .1 .0) (c .before .lock-at .ensures)
 
 locked-by-requires : tie.Need-locked-by-requires
 locked-by-requires c κs = search needs
@@ -27,10 +30,18 @@ mul-area : tie.Need-mul-area
 mul-area c = search needs
 
 slice-write-area : tie.Need-slice-write-area
-slice-write-area c = below (c .before .before .before .before .before .pre .0 .1 .image) (Tail (lock (c .before .before .before .before .before .args .l))) (c .before .before .before .before .before .pre .1 .0) (c .before .before .before .lock-at .ensures)
+slice-write-area c =
+    let args = c .before .before .before .before .before .args in
+    let pre = c .before .before .before .before .before .pre in
+    let lock-at = c .before .before .before .lock-at in
+    below (pre .0 .1 .image) (Tail (lock (args .l))) (pre .1 .0) (lock-at .ensures)
 
 mul-area-2 : tie.Need-mul-area-2
-mul-area-2 c = let h = number-fits {p = c .before .before .before .before .before .args .p} (c .before .before .before .before .before .pre .0 .1 .image) (c .before .before .before .before .before .pre .1 .1) in search needs
+mul-area-2 c =
+    let args = c .before .before .before .before .before .args in
+    let pre = c .before .before .before .before .before .pre in
+    let h = number-fits {p = args .p} (pre .0 .1 .image) (pre .1 .1) in
+    search needs
 
 add-area : tie.Need-add-area
 add-area c = search needs
@@ -39,13 +50,21 @@ mul-area-3 : tie.Need-mul-area-3
 mul-area-3 c = search needs
 
 slice-write-area-2 : tie.Need-slice-write-area-2
-slice-write-area-2 c = below-again (c .before .before .before .before .before .pre .0 .1 .image) (Holder (c .before .before .before .before .before .args .l)) (c .before .before .before .lock-at .result) (c .with-last .result) (c .before .before .before .before .before .pre .1 .0) (ap (λ k. k + 1) (c .before .before .before .lock-at .ensures))
+slice-write-area-2 c =
+    let args = c .before .before .before .before .before .args in
+    let pre = c .before .before .before .before .before .pre in
+    let lock-at = c .before .before .before .lock-at in
+    below-again (pre .0 .1 .image) (Holder (args .l)) (lock-at .result) (c .with-last .result) (pre .1 .0) (ap (λ k. k + 1) (lock-at .ensures))
 
 same-length : tie.Need-same-length
 same-length c = search needs
 
 returns : tie.Need-returns
-returns c = λ s H. write-holder H (c .before .before .before .before .before .args .l) (c .before .before .before .before .before .args .p) (c .before .before .before .before .before .pre .1 .0) (c .before .before .before .before .before .pre .1 .1) (c .before .before .before .lock-at .ensures) (c .before .locked-by .ensures .0) (c .with-last .ensures) refl
+returns c s H =
+    let args = c .before .before .before .before .before .args in
+    let pre = c .before .before .before .before .before .pre in
+    let lock-at = c .before .before .before .lock-at in
+    write-holder H (args .l) (args .p) (pre .1 .0) (pre .1 .1) (lock-at .ensures) (c .before .locked-by .ensures .0) (c .with-last .ensures) refl
 
 pub set-holder-spec : {M : Type 1} → statement M
 set-holder-spec =

@@ -14,7 +14,10 @@ mul-word : tie.Need-mul-word
 mul-word c = search needs
 
 slice-read-word : tie.Need-slice-read-word
-slice-read-word c = below (c .before .before .before .pre .0 .1) (Link (c .before .before .before .args .p)) (c .before .before .before .pre .1 .0) (c .before .record-at .ensures)
+slice-read-word c =
+    let args = c .before .before .before .args in
+    let pre = c .before .before .before .pre in
+    below (pre .0 .1) (Link (args .p)) (pre .1 .0) (c .before .record-at .ensures)
 
 with-priority-requires : tie.Need-with-priority-requires
 with-priority-requires c κs = search needs
@@ -23,7 +26,11 @@ mul-area : tie.Need-mul-area
 mul-area c = search needs
 
 slice-write-area : tie.Need-slice-write-area
-slice-write-area c = below (c .before .before .before .before .pre .0 .1) (Link (c .before .before .before .before .args .p)) (c .before .before .before .before .pre .1 .0) (c .before .before .record-at .ensures)
+slice-write-area c =
+    let args = c .before .before .before .before .args in
+    let pre = c .before .before .before .before .pre in
+    let record-at = c .before .before .record-at in
+    below (pre .0 .1) (Link (args .p)) (pre .1 .0) (record-at .ensures)
 
 mul-area-2 : tie.Need-mul-area-2
 mul-area-2 c = search needs
@@ -35,13 +42,21 @@ mul-area-3 : tie.Need-mul-area-3
 mul-area-3 c = search needs
 
 slice-write-area-2 : tie.Need-slice-write-area-2
-slice-write-area-2 c = below-again (c .before .before .before .before .pre .0 .1) (Flags (c .before .before .before .before .args .p)) (c .before .before .record-at .result) (c .with-priority .result) (c .before .before .before .before .pre .1 .0) (ap (λ k. k + 1) (c .before .before .record-at .ensures))
+slice-write-area-2 c =
+    let args = c .before .before .before .before .args in
+    let pre = c .before .before .before .before .pre in
+    let record-at = c .before .before .record-at in
+    below-again (pre .0 .1) (Flags (args .p)) (record-at .result) (c .with-priority .result) (pre .1 .0) (ap (λ k. k + 1) (record-at .ensures))
 
 same-length : tie.Need-same-length
 same-length c = search needs
 
 returns : tie.Need-returns
-returns c = λ t im. write-rank im (c .before .before .before .before .args .p) (c .before .before .before .before .args .v) (c .before .before .before .before .args .waits) (c .before .before .before .before .pre .1 .0) (c .before .before .before .before .pre .1 .1 .0) (c .before .before .before .before .pre .1 .1 .1) (c .before .before .record-at .ensures) (c .with-priority .ensures) refl
+returns c t im =
+    let args = c .before .before .before .before .args in
+    let pre = c .before .before .before .before .pre in
+    let record-at = c .before .before .record-at in
+    write-rank im (args .p) (args .v) (args .waits) (pre .1 .0) (pre .1 .1 .0) (pre .1 .1 .1) (record-at .ensures) (c .with-priority .ensures) refl
 
 pub set-rank-spec : {M : Type 1} → statement M
 set-rank-spec =

@@ -19,13 +19,19 @@ mul-area : tie.Need-mul-area
 mul-area c = search needs
 
 slice-write-area : tie.Need-slice-write-area
-slice-write-area c = below (c .before .before .pre .0 .1 .image) (Timer (c .before .before .args .p)) (c .before .before .pre .1) (ap (λ k. k + 2) (c .record-at .ensures))
+slice-write-area c =
+    let args = c .before .before .args in
+    let pre = c .before .before .pre in
+    below (pre .0 .1 .image) (Timer (args .p)) (pre .1) (ap (λ k. k + 2) (c .record-at .ensures))
 
 same-length : tie.Need-same-length
 same-length c = search needs
 
 returns : tie.Need-returns
-returns c = λ s H. write-word H (timer (c .before .before .args .p)) (c .before .before .args .value) refl refl (c .before .before .pre .1) (omega arith) (ap (λ k. k + 2) (c .record-at .ensures)) (omega arith)
+returns c s H =
+    let args = c .before .before .args in
+    let pre = c .before .before .pre in
+    write-word H (timer (args .p)) (args .value) refl refl (pre .1) (omega arith) (ap (λ k. k + 2) (c .record-at .ensures)) (omega arith)
 
 pub set-timer-spec : {M : Type 1} → statement M
 set-timer-spec =

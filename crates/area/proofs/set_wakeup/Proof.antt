@@ -16,7 +16,10 @@ mul-word : tie.Need-mul-word
 mul-word c = search needs
 
 slice-read-word : tie.Need-slice-read-word
-slice-read-word c = below (c .before .before .before .pre .0 .1 .image) (Tail (condition (c .before .before .before .args .c))) (c .before .before .before .pre .1 .0) (c .before .condition-at .ensures)
+slice-read-word c =
+    let args = c .before .before .before .args in
+    let pre = c .before .before .before .pre in
+    below (pre .0 .1 .image) (Tail (condition (args .c))) (pre .1 .0) (c .before .condition-at .ensures)
 
 with-last-requires : tie.Need-with-last-requires
 with-last-requires c κs = search needs
@@ -25,13 +28,21 @@ mul-area : tie.Need-mul-area
 mul-area c = search needs
 
 slice-write-area : tie.Need-slice-write-area
-slice-write-area c = below (c .before .before .before .before .pre .0 .1 .image) (Tail (condition (c .before .before .before .before .args .c))) (c .before .before .before .before .pre .1 .0) (c .before .before .condition-at .ensures)
+slice-write-area c =
+    let args = c .before .before .before .before .args in
+    let pre = c .before .before .before .before .pre in
+    let condition-at = c .before .before .condition-at in
+    below (pre .0 .1 .image) (Tail (condition (args .c))) (pre .1 .0) (condition-at .ensures)
 
 same-length : tie.Need-same-length
 same-length c = search needs
 
 returns : tie.Need-returns
-returns c = λ s H. write-field H (wakeup (c .before .before .before .before .args .c)) (c .before .before .before .before .args .value) (c .with-last .result) 1 2 refl (c .before .before .before .before .pre .1 .0) (c .before .before .before .before .pre .1 .1) (c .before .before .condition-at .ensures) refl refl (omega (arith, c .with-last .ensures))
+returns c s H =
+    let args = c .before .before .before .before .args in
+    let pre = c .before .before .before .before .pre in
+    let condition-at = c .before .before .condition-at in
+    write-field H (wakeup (args .c)) (args .value) (c .with-last .result) 1 2 refl (pre .1 .0) (pre .1 .1) (condition-at .ensures) refl refl (omega (arith, c .with-last .ensures))
 
 pub set-wakeup-spec : {M : Type 1} → statement M
 set-wakeup-spec =

@@ -32,13 +32,21 @@ part-before-end : tie.Need-part-before-end
 part-before-end c = search needs
 
 before-requires : tie.Need-before-requires
-before-requires c κs = let j = c .before .before .before .before .before .before .pre in (_, leaves-ring j _ _ (c .before .before .before .before .records-at .ensures) (c .before .before .next-field .ensures))
+before-requires c κs =
+    let pre = c .before .before .before .before .before .before .pre in
+    let records-at = c .before .before .before .before .records-at in
+    let next-field = c .before .before .next-field in
+    let j = pre in
+    (_, leaves-ring j _ _ (records-at .ensures) (next-field .ensures))
 
 same-length : tie.Need-same-length
 same-length c = search needs
 
 returns : tie.Need-returns
-returns c j = did-not (sym (j .stands) ∙ before-none _ _ (leaves-ring j _ _ (c .before .before .before .before .before .before .records-at .ensures) (c .before .before .before .before .next-field .ensures)) (c .before .before2 .ensures _ (leaves-ring j _ _ (c .before .before .before .before .before .before .records-at .ensures) (c .before .before .before .before .next-field .ensures))) (c .if1 .taken)) refl
+returns c j =
+    let records-at = c .before .before .before .before .before .before .records-at in
+    let next-field = c .before .before .before .before .next-field in
+    did-not (sym (j .stands) ∙ before-none _ _ (leaves-ring j _ _ (records-at .ensures) (next-field .ensures)) (c .before .before2 .ensures _ (leaves-ring j _ _ (records-at .ensures) (next-field .ensures))) (c .if1 .taken)) refl
 
 mul-leave : tie.Need-mul-leave
 mul-leave c = search needs
@@ -54,33 +62,62 @@ part-leave-end c = search needs
 
 leave-requires : tie.Need-leave-requires
 leave-requires c κs =
-    let j = c .before .before .before .before .before .before .before .before .before .pre in
-    let R = leaves-ring j _ _ (c .before .before .before .before .before .before .before .records-at .ensures) (c .before .before .before .before .before .next-field .ensures) in
-    let b = before-some (c .before .before .before .before .before .next-field .result) (c .before .before .before .before .before .before .before .before .before .args .p) (j .queues (j .queue)) (c .before .before .before2 .ensures _ R) (c .before .if1 .left) in
+    let args = c .before .before .before .before .before .before .before .before .before .args in
+    let pre = c .before .before .before .before .before .before .before .before .before .pre in
+    let records-at = c .before .before .before .before .before .before .before .records-at in
+    let next-field = c .before .before .before .before .before .next-field in
+    let before2 = c .before .before .before2 in
+    let j = pre in
+    let R = leaves-ring j _ _ (records-at .ensures) (next-field .ensures) in
+    let b = before-some (next-field .result) (args .p) (j .queues (j .queue)) (before2 .ensures _ R) (c .before .if1 .left) in
     (_, R, b .0, b .1)
 
 with-next-requires : tie.Need-with-next-requires
 with-next-requires c κs =
-    let j = c .before .before .before .before .before .before .before .before .before .before .before .before .pre in
-    let R = leaves-ring j _ _ (c .before .before .before .before .before .before .before .before .before .before .records-at .ensures) (c .before .before .before .before .before .before .before .before .next-field .ensures) in
-    let b = before-some (c .before .before .before .before .before .before .before .before .next-field .result) (c .before .before .before .before .before .before .before .before .before .before .before .before .args .p) (j .queues (j .queue)) (c .before .before .before .before .before .before2 .ensures _ R) (c .before .before .before .before .if1 .left) in
-    ring-tail-small _ (c .before .before .leave .ensures _ R (b .0) (b .1) .ring)
+    let args = c .before .before .before .before .before .before .before .before .before .before .before .before .args in
+    let pre = c .before .before .before .before .before .before .before .before .before .before .before .before .pre in
+    let records-at = c .before .before .before .before .before .before .before .before .before .before .records-at in
+    let next-field = c .before .before .before .before .before .before .before .before .next-field in
+    let before2 = c .before .before .before .before .before .before2 in
+    let if1 = c .before .before .before .before .if1 in
+    let leave = c .before .before .leave in
+    let j = pre in
+    let R = leaves-ring j _ _ (records-at .ensures) (next-field .ensures) in
+    let b = before-some (next-field .result) (args .p) (j .queues (j .queue)) (before2 .ensures _ R) (if1 .left) in
+    ring-tail-small _ (leave .ensures _ R (b .0) (b .1) .ring)
 
 mul-area : tie.Need-mul-area
-mul-area c = let j = c .before .before .before .before .before .before .before .before .before .before .before .before .before .pre in let h = tail-again (j .queue) (c .before .before .before .before .before .before .before .before .before .before .before .records-at .result) (c .before .before .before .leave .last .0) (j .rings) (j .given) (j .here) (c .before .before .before .before .before .before .before .before .before .before .before .records-at .ensures) in search needs
+mul-area c =
+    let pre = c .before .before .before .before .before .before .before .before .before .before .before .before .before .pre in
+    let records-at = c .before .before .before .before .before .before .before .before .before .before .before .records-at in
+    let leave = c .before .before .before .leave in
+    let j = pre in
+    let h = tail-again (j .queue) (records-at .result) (leave .last .0) (j .rings) (j .given) (j .here) (records-at .ensures) in
+    search needs
 
 slice-write-area : tie.Need-slice-write-area
-slice-write-area c = let j = c .before .before .before .before .before .before .before .before .before .before .before .before .before .pre in tail-again (j .queue) (c .before .before .before .before .before .before .before .before .before .before .before .records-at .result) (c .before .before .before .leave .last .0) (j .rings) (j .given) (j .here) (c .before .before .before .before .before .before .before .before .before .before .before .records-at .ensures)
+slice-write-area c =
+    let pre = c .before .before .before .before .before .before .before .before .before .before .before .before .before .pre in
+    let records-at = c .before .before .before .before .before .before .before .before .before .before .before .records-at in
+    let leave = c .before .before .before .leave in
+    let j = pre in
+    tail-again (j .queue) (records-at .result) (leave .last .0) (j .rings) (j .given) (j .here) (records-at .ensures)
 
 same-length-2 : tie.Need-same-length-2
 same-length-2 c = search needs
 
 returns-2 : tie.Need-returns-2
 returns-2 c j =
-    let R = leaves-ring j _ _ (c .before .before .before .before .before .before .before .before .before .before .before .records-at .ensures) (c .before .before .before .before .before .before .before .before .before .next-field .ensures) in
-    let b = before-some (c .before .before .before .before .before .before .before .before .before .next-field .result) (c .before .before .before .before .before .before .before .before .before .before .before .before .before .args .p) (j .queues (j .queue)) (c .before .before .before .before .before .before .before2 .ensures _ R) (c .before .before .before .before .before .if1 .left) in
+    let args = c .before .before .before .before .before .before .before .before .before .before .before .before .before .args in
+    let records-at = c .before .before .before .before .before .before .before .before .before .before .before .records-at in
+    let next-field = c .before .before .before .before .before .before .before .before .before .next-field in
+    let before2 = c .before .before .before .before .before .before .before2 in
+    let if1 = c .before .before .before .before .before .if1 in
+    let leave = c .before .before .before .leave in
+    let R = leaves-ring j _ _ (records-at .ensures) (next-field .ensures) in
+    let b = before-some (next-field .result) (args .p) (j .queues (j .queue)) (before2 .ensures _ R) (if1 .left) in
     did (sym (j .stands) ∙ b .0)
-    (left-relinks j (c .before .before .before .before .before .before .before .before .before .before .before .records-at .result) (c .before .before .before .before .before .before .before .before .before .next-field .result) (c .before .before .before .before .before .before .before .before .before .before .before .records-at .ensures) (c .before .before .before .before .before .before .before .before .before .next-field .ensures) (b .0) (c .before .before .before .leave .last .0) (c .before .before .before .leave .result) (c .with-next .result) (c .before .before .before .leave .ensures _ R (b .0) (b .1)) (c .with-next .ensures))
+    (left-relinks j (records-at .result) (next-field .result) (records-at .ensures) (next-field .ensures) (b .0) (leave .last .0) (leave .result) (c .with-next .result) (leave .ensures _ R (b .0) (b .1)) (c .with-next .ensures))
 
 pub take-out-spec : {M : Type 1} → statement M
 take-out-spec =

@@ -17,10 +17,16 @@ mul-result : tie.Need-mul-result
 mul-result c = search needs
 
 shared-slice-read-result : tie.Need-shared-slice-read-result
-shared-slice-read-result c = below (c .before .before .before .pre .0 .1 .image) (Timer (c .before .before .before .args .p)) (c .before .before .before .pre .1) (ap (λ k. k + 2) (c .before .record-at .ensures))
+shared-slice-read-result c =
+    let args = c .before .before .before .args in
+    let pre = c .before .before .before .pre in
+    below (pre .0 .1 .image) (Timer (args .p)) (pre .1) (ap (λ k. k + 2) (c .before .record-at .ensures))
 
 returns : tie.Need-returns
-returns c = λ s H. read-word H (Timer (c .before .before .before .args .p)) (c .before .before .before .pre .1) (ap (λ k. k + 2) (c .before .record-at .ensures))
+returns c s H =
+    let args = c .before .before .before .args in
+    let pre = c .before .before .before .pre in
+    read-word H (Timer (args .p)) (pre .1) (ap (λ k. k + 2) (c .before .record-at .ensures))
 
 pub timer-of-spec : {M : Type 1} → statement M
 timer-of-spec =

@@ -15,10 +15,16 @@ mul-result : tie.Need-mul-result
 mul-result c = search needs
 
 shared-slice-read-result : tie.Need-shared-slice-read-result
-shared-slice-read-result c = below (c .before .before .before .pre .0 .1 .image) (Tail (condition (c .before .before .before .args .c))) (c .before .before .before .pre .1) (c .before .condition-at .ensures)
+shared-slice-read-result c =
+    let args = c .before .before .before .args in
+    let pre = c .before .before .before .pre in
+    below (pre .0 .1 .image) (Tail (condition (args .c))) (pre .1) (c .before .condition-at .ensures)
 
 returns : tie.Need-returns
-returns c = λ s H. read-field H (wakeup (c .before .before .before .args .c)) 1 2 (c .before .before .before .pre .1) (c .before .condition-at .ensures) refl refl
+returns c s H =
+    let args = c .before .before .before .args in
+    let pre = c .before .before .before .pre in
+    read-field H (wakeup (args .c)) 1 2 (pre .1) (c .before .condition-at .ensures) refl refl
 
 pub wakeup-of-spec : {M : Type 1} → statement M
 wakeup-of-spec =

@@ -17,13 +17,23 @@ shape-of-requires : tie.Need-shape-of-requires
 shape-of-requires c κs = counts-there (checked (c .before .sound .result) (c .before .sound .ensures) (c .if1 .left))
 
 list-requires : tie.Need-list-requires
-list-requires c κs = held-at (c .before .shape-of .result) (c .before .shape-of .ensures) (λ i. omega (arith, c .before .before .before .before .before .shared-slice-known .given i)) (checked (c .before .before .before .sound .result) (c .before .before .before .sound .ensures) (c .before .before .if1 .left))
+list-requires c κs =
+    let shared-slice-known = c .before .before .before .before .before .shared-slice-known in
+    let sound = c .before .before .before .sound in
+    let if1 = c .before .before .if1 in
+    held-at (c .before .shape-of .result) (c .before .shape-of .ensures) (λ i. omega (arith, shared-slice-known .given i)) (checked (sound .result) (sound .ensures) (if1 .left))
 
 same-length : tie.Need-same-length
 same-length c = search needs
 
 returns-2 : tie.Need-returns-2
-returns-2 c = lists-at (c .before .before .before .before .shape-of .result) (c .before .before .before .before .shape-of .ensures) (λ i. omega (arith, c .before .before .before .before .before .before .before .before .shared-slice-known .given i)) (checked (c .before .before .before .before .before .before .sound .result) (c .before .before .before .before .before .before .sound .ensures) (c .before .before .before .before .before .if1 .left)) (c .before .before .list .ensures)
+returns-2 c =
+    let shared-slice-known = c .before .before .before .before .before .before .before .before .shared-slice-known in
+    let sound = c .before .before .before .before .before .before .sound in
+    let if1 = c .before .before .before .before .before .if1 in
+    let shape-of = c .before .before .before .before .shape-of in
+    let list = c .before .before .list in
+    lists-at (shape-of .result) (shape-of .ensures) (λ i. omega (arith, shared-slice-known .given i)) (checked (sound .result) (sound .ensures) (if1 .left)) (list .ensures)
 
 pub list-spec : {M : Type 1} → statement M
 list-spec = tie.close (tie.spec sound-requires returns shape-of-requires list-requires same-length returns-2)

@@ -22,13 +22,23 @@ shape-of-requires : tie.Need-shape-of-requires
 shape-of-requires c κs = counts-there (checked (c .before .before .sound .result) (c .before .before .sound .ensures) (c .before .if1 .left))
 
 tick-requires : tie.Need-tick-requires
-tick-requires c κs = stands-at (c .before .shape-of .result) (c .before .shape-of .ensures) (λ i. omega (arith, c .before .before .before .before .before .before .slice-known .given i)) (checked (c .before .before .before .before .sound .result) (c .before .before .before .before .sound .ensures) (c .before .before .before .if1 .left))
+tick-requires c κs =
+    let slice-known = c .before .before .before .before .before .before .slice-known in
+    let sound = c .before .before .before .before .sound in
+    let if1 = c .before .before .before .if1 in
+    stands-at (c .before .shape-of .result) (c .before .shape-of .ensures) (λ i. omega (arith, slice-known .given i)) (checked (sound .result) (sound .ensures) (if1 .left))
 
 same-length-2 : tie.Need-same-length-2
 same-length-2 c = search needs
 
 returns-2 : tie.Need-returns-2
-returns-2 c = performs-at (c .before .before .before .before .shape-of .result) (c .before .before .before .before .shape-of .ensures) (λ i. omega (arith, c .before .before .before .before .before .before .before .before .before .slice-known .given i)) (checked (c .before .before .before .before .before .before .before .sound .result) (c .before .before .before .before .before .before .before .sound .ensures) (c .before .before .before .before .before .before .if1 .left)) (c .before .before .tick .ensures)
+returns-2 c =
+    let slice-known = c .before .before .before .before .before .before .before .before .before .slice-known in
+    let sound = c .before .before .before .before .before .before .before .sound in
+    let if1 = c .before .before .before .before .before .before .if1 in
+    let shape-of = c .before .before .before .before .shape-of in
+    let tick = c .before .before .tick in
+    performs-at (shape-of .result) (shape-of .ensures) (λ i. omega (arith, slice-known .given i)) (checked (sound .result) (sound .ensures) (if1 .left)) (tick .ensures)
 
 pub tick-spec : {M : Type 1} → statement M
 tick-spec =

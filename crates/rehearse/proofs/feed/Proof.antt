@@ -27,7 +27,9 @@ slice-reshare-prefix-line-done : tie.Need-slice-reshare-prefix-line-done Inv-loo
 slice-reshare-prefix-line-done c = search needs
 
 slice-aggregate-line-done : tie.Need-slice-aggregate-line-done Inv-loop μ-loop
-slice-aggregate-line-done c = sym (length-take-le (c .before .before .before .before .loop .at) (c .before .before .before .before .loop .line) (c .before .before .before .before .loop .inv .0))
+slice-aggregate-line-done c =
+    let loop = c .before .before .before .before .loop in
+    sym (length-take-le (loop .at) (loop .line) (loop .inv .0))
 
 line-done-requires : tie.Need-line-done-requires Inv-loop μ-loop
 line-done-requires c κs = search needs
@@ -57,7 +59,9 @@ slice-reshare-prefix-write-all : tie.Need-slice-reshare-prefix-write-all Inv-loo
 slice-reshare-prefix-write-all c = search needs
 
 slice-aggregate-write-all : tie.Need-slice-aggregate-write-all Inv-loop μ-loop
-slice-aggregate-write-all c = sym (length-take-le (c .before .before .loop .full) (c .before .before .loop .out) (omega (arith, c .before .before .loop .inv .1 .0)))
+slice-aggregate-write-all c =
+    let loop = c .before .before .loop in
+    sym (length-take-le (loop .full) (loop .out) (omega (arith, loop .inv .1 .0)))
 
 write-all-requires : tie.Need-write-all-requires Inv-loop μ-loop
 write-all-requires c κs = search needs

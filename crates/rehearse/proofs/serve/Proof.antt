@@ -26,10 +26,18 @@ enum-known-shape : tie.Need-enum-known-shape
 enum-known-shape c = search needs
 
 slice-reshare-prefix-start : tie.Need-slice-reshare-prefix-start
-slice-reshare-prefix-start c = start-room (c .before .before .before .before .before .before .before .before .parse .result) (c .before .before .before .before .before .before .before .before .parse .last .1 .1 .0) (meaning (now (c .before .before .before .before .before .before .before .before .before .before .before .before .before .before .before .before .args .line))) (c .before .before .before .before .before .before .before .before .parse .ensures) (c .before .before .shape .given .0 .0) (c .before .before .shape .given .0 .1 .0) (c .before .before .shape .given .1)
+slice-reshare-prefix-start c =
+    let args = c .before .before .before .before .before .before .before .before .before .before .before .before .before .before .before .before .args in
+    let parse = c .before .before .before .before .before .before .before .before .parse in
+    let shape = c .before .before .shape in
+    start-room (parse .result) (parse .last .1 .1 .0) (meaning (now (args .line))) (parse .ensures) (shape .given .0 .0) (shape .given .0 .1 .0) (shape .given .1)
 
 slice-aggregate-start : tie.Need-slice-aggregate-start
-slice-aggregate-start c = sym (length-take-le (c .before .before .before .shape .given .0 .1 .0) (c .before .before .before .before .before .before .before .before .before .parse .last .1 .1 .0) (start-room (c .before .before .before .before .before .before .before .before .before .parse .result) (c .before .before .before .before .before .before .before .before .before .parse .last .1 .1 .0) (meaning (now (c .before .before .before .before .before .before .before .before .before .before .before .before .before .before .before .before .before .args .line))) (c .before .before .before .before .before .before .before .before .before .parse .ensures) (c .before .before .before .shape .given .0 .0) (c .before .before .before .shape .given .0 .1 .0) (c .before .before .before .shape .given .1)))
+slice-aggregate-start c =
+    let args = c .before .before .before .before .before .before .before .before .before .before .before .before .before .before .before .before .before .args in
+    let parse = c .before .before .before .before .before .before .before .before .before .parse in
+    let shape = c .before .before .before .shape in
+    sym (length-take-le (shape .given .0 .1 .0) (parse .last .1 .1 .0) (start-room (parse .result) (parse .last .1 .1 .0) (meaning (now (args .line))) (parse .ensures) (shape .given .0 .0) (shape .given .0 .1 .0) (shape .given .1)))
 
 start-requires : tie.Need-start-requires
 start-requires c κs = search needs
@@ -44,7 +52,10 @@ slice-write-out : tie.Need-slice-write-out
 slice-write-out c = search needs
 
 slice-write-out-2 : tie.Need-slice-write-out-2
-slice-write-out-2 c = omega (arith, length-set (now (c .before .before .before .before .before .before .before .before .before .before .before .before .before .before .args .out)) 0 63, c .before .before .before .before .before .before .before .before .before .before .before .before .before .before .pre .1 .1)
+slice-write-out-2 c =
+    let args = c .before .before .before .before .before .before .before .before .before .before .before .before .before .before .args in
+    let pre = c .before .before .before .before .before .before .before .before .before .before .before .before .before .before .pre in
+    omega (arith, length-set (now (args .out)) 0 63, pre .1 .1)
 
 same-length : tie.Need-same-length
 same-length c = search needs
@@ -59,10 +70,15 @@ same-length-4 : tie.Need-same-length-4
 same-length-4 c = search needs
 
 returns : tie.Need-returns
-returns c = (
-  omega (arith, c .before .before .print .ensures .0, c .before .before .print .kept),
-  served-call (c .before .before .before .before .before .before .before .before .before .before .before .before .before .before .before .parse .result) (c .before .before .before .before .before .before .before .before .before .before .before .before .before .before .before .parse .last .1 .1 .0) (meaning (now (c .before .before .before .before .before .before .before .before .before .before .before .before .before .before .before .before .before .before .before .before .before .before .before .args .line))) (c .before .before .before .before .before .before .before .before .before .before .before .before .before .before .before .parse .ensures) (c .before .before .before .before .before .before .before .before .before .call .given .0 .0) (now (c .before .before .before .before .before .before .before .before .before .before .before .before .before .before .before .before .before .before .before .before .before .before .before .args .area)) (c .before .before .before .before .before .before .perform .last .0) (take (c .before .before .print .result) (c .before .before .print .last .1 .0)) (c .before .before .before .before .before .before .perform .result) (c .before .before .before .before .before .before .before .before .before .call .given .1) (c .before .before .before .before .before .before .perform .ensures) (c .before .before .print .ensures .1),
-)
+returns c =
+    let args = c .before .before .before .before .before .before .before .before .before .before .before .before .before .before .before .before .before .before .before .before .before .before .before .args in
+    let parse = c .before .before .before .before .before .before .before .before .before .before .before .before .before .before .before .parse in
+    let call = c .before .before .before .before .before .before .before .before .before .call in
+    let perform = c .before .before .before .before .before .before .perform in
+    let print = c .before .before .print in (
+      omega (arith, print .ensures .0, print .kept),
+      served-call (parse .result) (parse .last .1 .1 .0) (meaning (now (args .line))) (parse .ensures) (call .given .0 .0) (now (args .area)) (perform .last .0) (take (print .result) (print .last .1 .0)) (perform .result) (call .given .1) (perform .ensures) (print .ensures .1),
+    )
 
 same-length-5 : tie.Need-same-length-5
 same-length-5 c = search needs
@@ -77,10 +93,15 @@ same-length-8 : tie.Need-same-length-8
 same-length-8 c = search needs
 
 returns-2 : tie.Need-returns-2
-returns-2 c = (
-  omega (arith, c .before .before .print2 .ensures .0, c .before .before .print2 .kept),
-  served-start (c .before .before .before .before .before .before .before .before .before .before .before .before .before .before .before .before .parse .result) (c .before .before .before .before .before .before .before .before .before .before .before .before .before .before .before .before .parse .last .1 .1 .0) (meaning (now (c .before .before .before .before .before .before .before .before .before .before .before .before .before .before .before .before .before .before .before .before .before .before .before .before .args .line))) (c .before .before .before .before .before .before .before .before .before .before .before .before .before .before .before .before .parse .ensures) (c .before .before .before .before .before .before .before .before .before .before .shape .given .0 .0) (c .before .before .before .before .before .before .before .before .before .before .shape .given .0 .1 .0) (now (c .before .before .before .before .before .before .before .before .before .before .before .before .before .before .before .before .before .before .before .before .before .before .before .before .args .area)) (c .before .before .before .before .before .before .start .last .0) (take (c .before .before .print2 .result) (c .before .before .print2 .last .1 .0)) (c .before .before .before .before .before .before .start .result) (c .before .before .before .before .before .before .before .before .before .before .shape .given .1) (c .before .before .before .before .before .before .start .ensures) (c .before .before .print2 .ensures .1),
-)
+returns-2 c =
+    let args = c .before .before .before .before .before .before .before .before .before .before .before .before .before .before .before .before .before .before .before .before .before .before .before .before .args in
+    let parse = c .before .before .before .before .before .before .before .before .before .before .before .before .before .before .before .before .parse in
+    let shape = c .before .before .before .before .before .before .before .before .before .before .shape in
+    let start = c .before .before .before .before .before .before .start in
+    let print2 = c .before .before .print2 in (
+      omega (arith, print2 .ensures .0, print2 .kept),
+      served-start (parse .result) (parse .last .1 .1 .0) (meaning (now (args .line))) (parse .ensures) (shape .given .0 .0) (shape .given .0 .1 .0) (now (args .area)) (start .last .0) (take (print2 .result) (print2 .last .1 .0)) (start .result) (shape .given .1) (start .ensures) (print2 .ensures .1),
+    )
 
 same-length-9 : tie.Need-same-length-9
 same-length-9 c = search needs
@@ -92,10 +113,13 @@ same-length-11 : tie.Need-same-length-11
 same-length-11 c = search needs
 
 returns-3 : tie.Need-returns-3
-returns-3 c = (
-  omega (arith, c .before .before .before .before .before .before .before .before .before .before .before .before .before .before .pre .1 .1),
-  served-none (c .before .before .before .before .before .before .parse .result) (c .before .before .before .before .before .before .parse .last .1 .1 .0) (meaning (now (c .before .before .before .before .before .before .before .before .before .before .before .before .before .before .args .line))) (c .before .before .before .before .before .before .parse .ensures) (now (c .before .before .before .before .before .before .before .before .before .before .before .before .before .before .args .area)) (take 2 (set (set (now (c .before .before .before .before .before .before .before .before .before .before .before .before .before .before .args .out)) 0 63) 1 10)) (c .enum-told .given .1) (question (now (c .before .before .before .before .before .before .before .before .before .before .before .before .before .before .args .out)) (c .before .before .before .before .before .before .before .before .before .before .before .before .before .before .pre .1 .1)),
-)
+returns-3 c =
+    let args = c .before .before .before .before .before .before .before .before .before .before .before .before .before .before .args in
+    let pre = c .before .before .before .before .before .before .before .before .before .before .before .before .before .before .pre in
+    let parse = c .before .before .before .before .before .before .parse in (
+      omega (arith, pre .1 .1),
+      served-none (parse .result) (parse .last .1 .1 .0) (meaning (now (args .line))) (parse .ensures) (now (args .area)) (take 2 (set (set (now (args .out)) 0 63) 1 10)) (c .enum-told .given .1) (question (now (args .out)) (pre .1 .1)),
+    )
 
 pub serve-spec : {M : Type 1} → statement M
 serve-spec =

@@ -20,7 +20,10 @@ met-requires : tie.Need-met-requires
 met-requires c κs = search needs
 
 returns-4 : tie.Need-returns-4
-returns-4 c = ((λ e. (omega arith, omega arith)), (λ js t. fresh-met _ _ _ js (c .before .before .before .if1 .left) (c .before .before .if2 .left) (c .before .if3 .left) _ (c .met .ensures ∙ t .says _ (omega arith))))
+returns-4 c =
+    let if1 = c .before .before .before .if1 in
+    let if2 = c .before .before .if2 in
+    ((λ e. (omega arith, omega arith)), (λ js t. fresh-met _ _ _ js (if1 .left) (if2 .left) (c .before .if3 .left) _ (c .met .ensures ∙ t .says _ (omega arith))))
 
 pub fresh-spec : {M : Type 1} → statement M
 fresh-spec = tie.close (tie.spec returns returns-2 returns-3 met-requires returns-4)

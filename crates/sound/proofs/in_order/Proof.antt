@@ -17,13 +17,27 @@ returns-4 : tie.Need-returns-4
 returns-4 c = head-held _ _ _ _ (c .before .before .before .if1 .left) (c .before .before .if2 .left) (c .before .if3 .left) (c .if4 .taken)
 
 returns-5 : tie.Need-returns-5
-returns-5 c = head-wakeup _ _ _ _ (c .before .before .before .before .before .if1 .left) (c .before .before .before .before .if2 .left) (c .before .before .before .if3 .left) (c .before .before .if4 .left) (c .before .if5 .taken) (c .if6 .taken)
+returns-5 c =
+    let if1 = c .before .before .before .before .before .if1 in
+    let if2 = c .before .before .before .before .if2 in
+    let if3 = c .before .before .before .if3 in
+    let if4 = c .before .before .if4 in
+    head-wakeup _ _ _ _ (if1 .left) (if2 .left) (if3 .left) (if4 .left) (c .before .if5 .taken) (c .if6 .taken)
 
 returns-6 : tie.Need-returns-6
-returns-6 c = head-plain _ _ _ _ (c .before .before .before .before .before .if1 .left) (c .before .before .before .before .if2 .left) (c .before .before .before .if3 .left) (c .before .before .if4 .left) (λ a b. c .if6 .left b)
+returns-6 c =
+    let if1 = c .before .before .before .before .before .if1 in
+    let if2 = c .before .before .before .before .if2 in
+    let if3 = c .before .before .before .if3 in
+    let if4 = c .before .before .if4 in
+    head-plain _ _ _ _ (if1 .left) (if2 .left) (if3 .left) (if4 .left) (λ a b. c .if6 .left b)
 
 returns-7 : tie.Need-returns-7
-returns-7 c = head-plain _ _ _ _ (c .before .before .before .before .if1 .left) (c .before .before .before .if2 .left) (c .before .before .if3 .left) (c .before .if4 .left) (λ a b. c .if5 .left a)
+returns-7 c =
+    let if1 = c .before .before .before .before .if1 in
+    let if2 = c .before .before .before .if2 in
+    let if3 = c .before .before .if3 in
+    head-plain _ _ _ _ (if1 .left) (if2 .left) (if3 .left) (c .before .if4 .left) (λ a b. c .if5 .left a)
 
 pub in-order-spec : {M : Type 1} → statement M
 in-order-spec = tie.close (tie.spec returns returns-2 returns-3 returns-4 returns-5 returns-6 returns-7)

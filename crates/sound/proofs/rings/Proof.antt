@@ -38,15 +38,21 @@ shared-slice-read-w : tie.Need-shared-slice-read-w Inv-loop μ-loop
 shared-slice-read-w c = within (c .before)
 
 holder-word-requires : tie.Need-holder-word-requires Inv-loop μ-loop
-holder-word-requires c κs = holder-within _ _ _ _ _ (c .before .head-at .ensures) (c .before .before .loop-test .taken) (c .before .before .before .before .before .before .pre .3)
+holder-word-requires c κs =
+    let pre = c .before .before .before .before .before .before .pre in
+    let loop-test = c .before .before .loop-test in
+    holder-within _ _ _ _ _ (c .before .head-at .ensures) (loop-test .taken) (pre .3)
 
 in-order-requires : tie.Need-in-order-requires Inv-loop μ-loop
 in-order-requires c κs = search needs
 
 returns : tie.Need-returns Inv-loop μ-loop
-returns c = λ js T.
+returns c js T =
+    let loop-test = c .before .before .before .before .before .loop-test in
+    let head-at = c .before .before .before .before .head-at in
+    let holder-word = c .before .before .holder-word in
     let l = c .before .before .before .before .before .before in
-    passed-odd _ _ _ _ _ _ _ _ (c .before .before .before .before .head-at .ensures) refl (c .before .before .holder-word .ensures) _ (c .before .before .before .before .before .loop-test .taken) _ _ js (l .loop .inv .1 js T) _ (c .before .in-order .ensures) _ (c .if1 .taken)
+    passed-odd _ _ _ _ _ _ _ _ (head-at .ensures) refl (holder-word .ensures) _ (loop-test .taken) _ _ js (l .loop .inv .1 js T) _ (c .before .in-order .ensures) _ (c .if1 .taken)
 
 -- past the test the tail is one of 0 to P
 tail-small : (c : tie.Else1 Inv-loop μ-loop) → getD (now (c .before .before .before .before .before .before .before .before .before .args .heads)) (c .before .before .before .before .head-at .result) 0 / 8 ≤ c .before .before .before .before .before .before .before .before .before .args .processes

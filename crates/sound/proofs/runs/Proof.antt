@@ -48,7 +48,10 @@ mul-if6 : tie.Need-mul-if6
 mul-if6 c = search needs
 
 returns-6 : tie.Need-returns-6
-returns-6 c = λ x. c .if6 .taken (x .somebody (c .before .before .before .before .before .before .if1 .left) .first ∙ rw (← c .before .before .before .next-field .ensures))
+returns-6 c x =
+    let if1 = c .before .before .before .before .before .before .if1 in
+    let next-field = c .before .before .before .next-field in
+    c .if6 .taken (x .somebody (if1 .left) .first ∙ rw (← next-field .ensures))
 
 cast-at : tie.Need-cast-at
 cast-at c = search needs
@@ -66,7 +69,10 @@ shared-slice-read-failed : tie.Need-shared-slice-read-failed
 shared-slice-read-failed c = search needs
 
 returns-7 : tie.Need-returns-7
-returns-7 c = λ x. c .if7 .taken (rw (c .before .before .before .before .before .next-field .ensures) (x .somebody (c .before .before .before .before .before .before .before .before .if1 .left) .clear))
+returns-7 c x =
+    let if1 = c .before .before .before .before .before .before .before .before .if1 in
+    let next-field = c .before .before .before .before .before .next-field in
+    c .if7 .taken (rw (next-field .ensures) (x .somebody (if1 .left) .clear))
 
 returns-8 : tie.Need-returns-8
 returns-8 c =

@@ -36,7 +36,9 @@ counted-requires : tie.Need-counted-requires
 counted-requires c κs = search needs
 
 returns : tie.Need-returns
-returns c = refuses (uncounted (now (c .before .before .before .args .area)) (small-then c) (decides-no (c .before .counted .result) (c .before .counted .ensures) (c .if1 .taken)))
+returns c =
+    let args = c .before .before .before .args in
+    refuses (uncounted (now (args .area)) (small-then c) (decides-no (c .before .counted .result) (c .before .counted .ensures) (c .if1 .taken)))
 
 shared-slice-read-processes : tie.Need-shared-slice-read-processes
 shared-slice-read-processes c = omega (arith, counts (c .before), small (c .before) 1)

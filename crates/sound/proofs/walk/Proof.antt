@@ -49,7 +49,9 @@ fresh-requires : tie.Need-fresh-requires Inv-loop μ-loop
 fresh-requires c κs = search needs
 
 returns-2 : tie.Need-returns-2 Inv-loop μ-loop
-returns-2 c = λ js T. going-stale _ _ _ _ _ _ _ _ _ _ (c .before .before .before .before .loop .inv .1 js T) _ (c .before .fresh .ensures .1) _ (c .if2 .taken)
+returns-2 c js T =
+    let loop = c .before .before .before .before .loop in
+    going-stale _ _ _ _ _ _ _ _ _ _ (loop .inv .1 js T) _ (c .before .fresh .ensures .1) _ (c .if2 .taken)
 
 sub-at : tie.Need-sub-at Inv-loop μ-loop
 sub-at c = omega (arith, near c)
@@ -116,14 +118,16 @@ loop-less : tie.Need-loop-less Inv-loop μ-loop
 loop-less c = search needs
 
 loop-again : tie.Need-loop-again Inv-loop μ-loop
-loop-again c = (
-  omega arith,
-  λ js T.
-      let i3 = c .before .before .before .before .before in
-      let i2 = i3 .before .before .before .before .before in
-      let l = i2 .before .before .before .before in
-      going-on _ _ _ _ _ _ _ _ _ _ (l .loop .inv .1 js T) _ (i2 .before .fresh .ensures .1) _ (i3 .before .fits2 .ensures) (i2 .if2 .left) (i3 .if3 .left) (i2 .before .before .before .loop-test .taken) (l .loop .inv .0) _ (c .before .before .before .mark .ensures) _ _ (c .before .before .if4 .left) (c .next-field2 .ensures) (c .before .priority-field .ensures),
-)
+loop-again c =
+    let mark = c .before .before .before .mark in
+    let if4 = c .before .before .if4 in (
+      omega arith,
+      λ js T.
+          let i3 = c .before .before .before .before .before in
+          let i2 = i3 .before .before .before .before .before in
+          let l = i2 .before .before .before .before in
+          going-on _ _ _ _ _ _ _ _ _ _ (l .loop .inv .1 js T) _ (i2 .before .fresh .ensures .1) _ (i3 .before .fits2 .ensures) (i2 .if2 .left) (i3 .if3 .left) (i2 .before .before .before .loop-test .taken) (l .loop .inv .0) _ (mark .ensures) _ _ (if4 .left) (c .next-field2 .ensures) (c .before .priority-field .ensures),
+    )
 
 returns-5 : tie.Need-returns-5 Inv-loop μ-loop
 returns-5 c = λ js T. going-out _ _ _ _ _ _ _ _ _ _ (c .before .loop .inv .1 js T) _ (c .loop-test .left)

@@ -34,13 +34,15 @@ one-above-requires c κs = search needs
 
 returns-3 : tie.Need-returns-3
 returns-3 c =
+    let if2 = c .before .before .if2 in
     let s = c .before .before .before .before .before .before .before in
-    code-priority (s .args .shape) (s .args .priorities .now) (counts-hold (c .before .before .before .before)) (c .before .before .if2 .left) (sym (c .before .one-above .ensures) ∙ c .if3 .taken)
+    code-priority (s .args .shape) (s .args .priorities .now) (counts-hold (c .before .before .before .before)) (if2 .left) (sym (c .before .one-above .ensures) ∙ c .if3 .taken)
 
 returns-4 : tie.Need-returns-4
 returns-4 c =
+    let if2 = c .before .before .if2 in
     let s = c .before .before .before .before .before .before .before in
-    code-none (s .args .shape) (s .args .priorities .now) (counts-hold (c .before .before .before .before)) (c .before .before .if2 .left) (sym (c .before .one-above .ensures) ∙ c .if3 .left)
+    code-none (s .args .shape) (s .args .priorities .now) (counts-hold (c .before .before .before .before)) (if2 .left) (sym (c .before .one-above .ensures) ∙ c .if3 .left)
 
 pub code-of-spec : {M : Type 1} → statement M
 code-of-spec =

@@ -26,20 +26,35 @@ loop-holds : tie.Need-loop-holds Inv-loop μ-loop
 loop-holds c = (omega arith, any-some (λ k. member (c .before .args .p) (c .before .pre .0 .queues (condition k))) (c .before .args .shape .conditions) (c .before .pre .2), refl, λ s H. refl)
 
 condition-at-requires : tie.Need-condition-at-requires Inv-loop μ-loop
-condition-at-requires c κs = bounds-inside (c .before .before .before .args .shape .conditions) (c .before .loop .c) (c .before .loop .inv .0) (c .before .loop .inv .1)
+condition-at-requires c κs =
+    let args = c .before .before .before .args in
+    bounds-inside (args .shape .conditions) (c .before .loop .c) (c .before .loop .inv .0) (c .before .loop .inv .1)
 
 wake-requires : tie.Need-wake-requires Inv-loop μ-loop
-wake-requires c κs = (_, condition (c .before .before .before .loop .c), (held-still (c .before .before .before .loop .inv .2) (c .before .before .before .before .before .pre .1)), bounds-inside (c .before .before .before .before .before .args .shape .conditions) (c .before .before .before .loop .c) (c .before .before .before .loop .inv .0) (c .before .before .before .loop .inv .1), c .before .condition-at .ensures, sleeper (c .before .before .before .before .before .pre .1) (c .before .before .before .before .before .args .p) (c .before .before .before .before .before .pre .2))
+wake-requires c κs =
+    let args = c .before .before .before .before .before .args in
+    let pre = c .before .before .before .before .before .pre in
+    let loop = c .before .before .before .loop in
+    (_, condition (loop .c), (held-still (loop .inv .2) (pre .1)), bounds-inside (args .shape .conditions) (loop .c) (loop .inv .0) (loop .inv .1), c .before .condition-at .ensures, sleeper (pre .1) (args .p) (pre .2))
 
 same-length : tie.Need-same-length Inv-loop μ-loop
 same-length c =
-    let t = c .before .before .before .wake .ensures _ (condition (c .before .before .before .before .before .before .before .loop .c)) (held-still (c .before .before .before .before .before .before .before .loop .inv .2) (c .before .before .before .before .before .before .before .before .before .pre .1)) (bounds-inside (c .before .before .before .before .before .before .before .before .before .args .shape .conditions) (c .before .before .before .before .before .before .before .loop .c) (c .before .before .before .before .before .before .before .loop .inv .0) (c .before .before .before .before .before .before .before .loop .inv .1)) (c .before .before .before .before .before .condition-at .ensures) in
-    as-long (c .before .before .before .before .before .before .before .before .before .pre .1) (becomes-still (c .before .before .before .before .before .before .before .loop .inv .2) (t .done (sym (t .told) ∙ c .if1 .taken)))
+    let args = c .before .before .before .before .before .before .before .before .before .args in
+    let pre = c .before .before .before .before .before .before .before .before .before .pre in
+    let loop = c .before .before .before .before .before .before .before .loop in
+    let condition-at = c .before .before .before .before .before .condition-at in
+    let wake = c .before .before .before .wake in
+    let t = wake .ensures _ (condition (loop .c)) (held-still (loop .inv .2) (pre .1)) (bounds-inside (args .shape .conditions) (loop .c) (loop .inv .0) (loop .inv .1)) (condition-at .ensures) in
+    as-long (pre .1) (becomes-still (loop .inv .2) (t .done (sym (t .told) ∙ c .if1 .taken)))
 
 returns : tie.Need-returns Inv-loop μ-loop
 returns c s H w =
-    let t = c .before .before .before .wake .ensures s (condition (c .before .before .before .before .before .before .before .loop .c)) (held-still (c .before .before .before .before .before .before .before .loop .inv .2) H) (bounds-inside (c .before .before .before .before .before .before .before .before .before .args .shape .conditions) (c .before .before .before .before .before .before .before .loop .c) (c .before .before .before .before .before .before .before .loop .inv .0) (c .before .before .before .before .before .before .before .loop .inv .1)) (c .before .before .before .before .before .condition-at .ensures) in
-    becomes-still (c .before .before .before .before .before .before .before .loop .inv .2) (t .done (sym (t .told) ∙ c .if1 .taken))
+    let args = c .before .before .before .before .before .before .before .before .before .args in
+    let loop = c .before .before .before .before .before .before .before .loop in
+    let condition-at = c .before .before .before .before .before .condition-at in
+    let wake = c .before .before .before .wake in
+    let t = wake .ensures s (condition (loop .c)) (held-still (loop .inv .2) H) (bounds-inside (args .shape .conditions) (loop .c) (loop .inv .0) (loop .inv .1)) (condition-at .ensures) in
+    becomes-still (loop .inv .2) (t .done (sym (t .told) ∙ c .if1 .taken))
 
 add-c : tie.Need-add-c Inv-loop μ-loop
 add-c c = omega arith
@@ -49,30 +64,52 @@ loop-less c = omega arith
 
 loop-again : tie.Need-loop-again Inv-loop μ-loop
 loop-again c =
-    let t = c .before .before .before .wake .ensures _ (condition (c .before .before .before .before .before .before .before .loop .c)) (held-still (c .before .before .before .before .before .before .before .loop .inv .2) (c .before .before .before .before .before .before .before .before .before .pre .1)) (bounds-inside (c .before .before .before .before .before .before .before .before .before .args .shape .conditions) (c .before .before .before .before .before .before .before .loop .c) (c .before .before .before .before .before .before .before .loop .inv .0) (c .before .before .before .before .before .before .before .loop .inv .1)) (c .before .before .before .before .before .condition-at .ensures) in (
+    let args = c .before .before .before .before .before .before .before .before .before .args in
+    let pre = c .before .before .before .before .before .before .before .before .before .pre in
+    let loop = c .before .before .before .before .before .before .before .loop in
+    let condition-at = c .before .before .before .before .before .condition-at in
+    let wake = c .before .before .before .wake in
+    let t = wake .ensures _ (condition (loop .c)) (held-still (loop .inv .2) (pre .1)) (bounds-inside (args .shape .conditions) (loop .c) (loop .inv .0) (loop .inv .1)) (condition-at .ensures) in (
       omega arith,
       omega arith,
-      t .kept (sym (t .told) ∙ c .if1 .left) ∙ c .before .before .before .before .before .before .before .loop .inv .2,
+      t .kept (sym (t .told) ∙ c .if1 .left) ∙ loop .inv .2,
       λ s H.
-          let u = c .before .before .before .wake .ensures s (condition (c .before .before .before .before .before .before .before .loop .c)) (held-still (c .before .before .before .before .before .before .before .loop .inv .2) H) (bounds-inside (c .before .before .before .before .before .before .before .before .before .args .shape .conditions) (c .before .before .before .before .before .before .before .loop .c) (c .before .before .before .before .before .before .before .loop .inv .0) (c .before .before .before .before .before .before .before .loop .inv .1)) (c .before .before .before .before .before .condition-at .ensures) in
-          any-next (λ k. member (c .before .before .before .before .before .before .before .before .before .args .p) (s .queues (condition k))) (c .before .before .before .before .before .before .before .loop .c) (c .before .before .before .before .before .before .before .loop .inv .0) (sym (u .told) ∙ c .if1 .left) (c .before .before .before .before .before .before .before .loop .inv .3 s H),
+          let u = wake .ensures s (condition (loop .c)) (held-still (loop .inv .2) H) (bounds-inside (args .shape .conditions) (loop .c) (loop .inv .0) (loop .inv .1)) (condition-at .ensures) in
+          any-next (λ k. member (args .p) (s .queues (condition k))) (loop .c) (loop .inv .0) (sym (u .told) ∙ c .if1 .left) (loop .inv .3 s H),
     )
 
 condition-at-requires-2 : tie.Need-condition-at-requires-2 Inv-loop μ-loop
-condition-at-requires-2 c κs = bounds-inside (c .before .before .before .args .shape .conditions) (c .before .loop .c) (c .before .loop .inv .0) (c .before .loop .inv .1)
+condition-at-requires-2 c κs =
+    let args = c .before .before .before .args in
+    bounds-inside (args .shape .conditions) (c .before .loop .c) (c .before .loop .inv .0) (c .before .loop .inv .1)
 
 wake-requires-2 : tie.Need-wake-requires-2 Inv-loop μ-loop
-wake-requires-2 c κs = (_, condition (c .before .before .before .loop .c), (held-still (c .before .before .before .loop .inv .2) (c .before .before .before .before .before .pre .1)), bounds-inside (c .before .before .before .before .before .args .shape .conditions) (c .before .before .before .loop .c) (c .before .before .before .loop .inv .0) (c .before .before .before .loop .inv .1), c .before .condition-at2 .ensures, sleeper (c .before .before .before .before .before .pre .1) (c .before .before .before .before .before .args .p) (c .before .before .before .before .before .pre .2))
+wake-requires-2 c κs =
+    let args = c .before .before .before .before .before .args in
+    let pre = c .before .before .before .before .before .pre in
+    let loop = c .before .before .before .loop in
+    (_, condition (loop .c), (held-still (loop .inv .2) (pre .1)), bounds-inside (args .shape .conditions) (loop .c) (loop .inv .0) (loop .inv .1), c .before .condition-at2 .ensures, sleeper (pre .1) (args .p) (pre .2))
 
 same-length-2 : tie.Need-same-length-2 Inv-loop μ-loop
 same-length-2 c =
-    let t = c .before .before .wake2 .ensures _ (condition (c .before .before .before .before .before .before .loop .c)) (held-still (c .before .before .before .before .before .before .loop .inv .2) (c .before .before .before .before .before .before .before .before .pre .1)) (bounds-inside (c .before .before .before .before .before .before .before .before .args .shape .conditions) (c .before .before .before .before .before .before .loop .c) (c .before .before .before .before .before .before .loop .inv .0) (c .before .before .before .before .before .before .loop .inv .1)) (c .before .before .before .before .condition-at2 .ensures) in
-    as-long (c .before .before .before .before .before .before .before .before .pre .1) (becomes-still (c .before .before .before .before .before .before .loop .inv .2) (t .done (any-last (λ k. member (c .before .before .before .before .before .before .before .before .args .p) (c .before .before .before .before .before .before .before .before .pre .0 .queues (condition k))) (c .before .before .before .before .before .before .before .before .args .shape .conditions) (c .before .before .before .before .before .before .loop .c) (c .before .before .before .before .before .before .loop .inv .1) (c .before .before .before .before .before .loop-test .left) (c .before .before .before .before .before .before .before .before .pre .2) (c .before .before .before .before .before .before .loop .inv .3 (c .before .before .before .before .before .before .before .before .pre .0) (c .before .before .before .before .before .before .before .before .pre .1)))))
+    let args = c .before .before .before .before .before .before .before .before .args in
+    let pre = c .before .before .before .before .before .before .before .before .pre in
+    let loop = c .before .before .before .before .before .before .loop in
+    let loop-test = c .before .before .before .before .before .loop-test in
+    let condition-at2 = c .before .before .before .before .condition-at2 in
+    let wake2 = c .before .before .wake2 in
+    let t = wake2 .ensures _ (condition (loop .c)) (held-still (loop .inv .2) (pre .1)) (bounds-inside (args .shape .conditions) (loop .c) (loop .inv .0) (loop .inv .1)) (condition-at2 .ensures) in
+    as-long (pre .1) (becomes-still (loop .inv .2) (t .done (any-last (λ k. member (args .p) (pre .0 .queues (condition k))) (args .shape .conditions) (loop .c) (loop .inv .1) (loop-test .left) (pre .2) (loop .inv .3 (pre .0) (pre .1)))))
 
 returns-2 : tie.Need-returns-2 Inv-loop μ-loop
 returns-2 c s H w =
-    let t = c .before .before .wake2 .ensures s (condition (c .before .before .before .before .before .before .loop .c)) (held-still (c .before .before .before .before .before .before .loop .inv .2) H) (bounds-inside (c .before .before .before .before .before .before .before .before .args .shape .conditions) (c .before .before .before .before .before .before .loop .c) (c .before .before .before .before .before .before .loop .inv .0) (c .before .before .before .before .before .before .loop .inv .1)) (c .before .before .before .before .condition-at2 .ensures) in
-    becomes-still (c .before .before .before .before .before .before .loop .inv .2) (t .done (any-last (λ k. member (c .before .before .before .before .before .before .before .before .args .p) (s .queues (condition k))) (c .before .before .before .before .before .before .before .before .args .shape .conditions) (c .before .before .before .before .before .before .loop .c) (c .before .before .before .before .before .before .loop .inv .1) (c .before .before .before .before .before .loop-test .left) w (c .before .before .before .before .before .before .loop .inv .3 s H)))
+    let args = c .before .before .before .before .before .before .before .before .args in
+    let loop = c .before .before .before .before .before .before .loop in
+    let loop-test = c .before .before .before .before .before .loop-test in
+    let condition-at2 = c .before .before .before .before .condition-at2 in
+    let wake2 = c .before .before .wake2 in
+    let t = wake2 .ensures s (condition (loop .c)) (held-still (loop .inv .2) H) (bounds-inside (args .shape .conditions) (loop .c) (loop .inv .0) (loop .inv .1)) (condition-at2 .ensures) in
+    becomes-still (loop .inv .2) (t .done (any-last (λ k. member (args .p) (s .queues (condition k))) (args .shape .conditions) (loop .c) (loop .inv .1) (loop-test .left) w (loop .inv .3 s H)))
 
 pub rouse-spec : {M : Type 1} → statement M
 rouse-spec =

@@ -12,19 +12,49 @@ wrapping-add-u16-requires : tie.Need-wrapping-add-u16-requires
 wrapping-add-u16-requires c κs = search needs
 
 set-clock-requires : tie.Need-set-clock-requires
-set-clock-requires c κs = (c .before .before .before .before .before .args .shape, (c .before .before .before .before .before .pre .state, c .before .before .before .before .before .pre .holds))
+set-clock-requires c κs =
+    let args = c .before .before .before .before .before .args in
+    let pre = c .before .before .before .before .before .pre in
+    (args .shape, (pre .state, pre .holds))
 
 wake-due-requires : tie.Need-wake-due-requires
-wake-due-requires c κs = let s = c .before .before .before .before .before .before .before .before .before .pre .state in let H = c .before .before .before .before .before .before .before .before .before .pre .holds in let v = c .before .before .before .before .before .before .before .before .before .pre .valid in let b = c .before .before .before .set-clock .ensures (c .before .before .before .before .before .before .before .before .before .args .shape) s H in record { state = _; holds = b .holds; valid = valid-clock (b .holds .placed) v }
+wake-due-requires c κs =
+    let args = c .before .before .before .before .before .before .before .before .before .args in
+    let pre = c .before .before .before .before .before .before .before .before .before .pre in
+    let set-clock = c .before .before .before .set-clock in
+    let s = pre .state in
+    let H = pre .holds in
+    let v = pre .valid in
+    let b = set-clock .ensures (args .shape) s H in
+    record { state = _; holds = b .holds; valid = valid-clock (b .holds .placed) v }
 
 finish-requires : tie.Need-finish-requires
-finish-requires c κs = let s = c .before .before .before .before .before .before .before .before .before .before .before .before .before .pre .state in let H = c .before .before .before .before .before .before .before .before .before .before .before .before .before .pre .holds in let v = c .before .before .before .before .before .before .before .before .before .before .before .before .before .pre .valid in let b = c .before .before .before .before .before .before .before .set-clock .ensures (c .before .before .before .before .before .before .before .before .before .before .before .before .before .args .shape) s H in let w = c .before .before .before .wake-due .ensures _ (b .holds) (valid-clock (b .holds .placed) v) in (_, w .1 .holds)
+finish-requires c κs =
+    let args = c .before .before .before .before .before .before .before .before .before .before .before .before .before .args in
+    let pre = c .before .before .before .before .before .before .before .before .before .before .before .before .before .pre in
+    let set-clock = c .before .before .before .before .before .before .before .set-clock in
+    let wake-due = c .before .before .before .wake-due in
+    let s = pre .state in
+    let H = pre .holds in
+    let v = pre .valid in
+    let b = set-clock .ensures (args .shape) s H in
+    let w = wake-due .ensures _ (b .holds) (valid-clock (b .holds .placed) v) in
+    (_, w .1 .holds)
 
 same-length : tie.Need-same-length
 same-length c = search needs
 
 returns : tie.Need-returns
-returns c = λ s H v. let b = c .before .before .before .before .before .before .before .before .before .before .set-clock .ensures (c .before .before .before .before .before .before .before .before .before .before .before .before .before .before .before .before .args .shape) s H in let w = c .before .before .before .before .before .before .wake-due .ensures _ (b .holds) (valid-clock (b .holds .placed) v) in ticks H v (c .before .before .before .before .before .before .before .before .before .before .before .before .before .clock-of .ensures _ s H) (c .before .before .before .before .before .before .before .before .before .before .before .before .wrapping-add-u16 .ensures) (w .0) (becomes-then b (w .1)) (c .before .before .finish .ensures _ (w .1 .holds))
+returns c s H v =
+    let args = c .before .before .before .before .before .before .before .before .before .before .before .before .before .before .before .before .args in
+    let clock-of = c .before .before .before .before .before .before .before .before .before .before .before .before .before .clock-of in
+    let wrapping-add-u16 = c .before .before .before .before .before .before .before .before .before .before .before .before .wrapping-add-u16 in
+    let set-clock = c .before .before .before .before .before .before .before .before .before .before .set-clock in
+    let wake-due = c .before .before .before .before .before .before .wake-due in
+    let finish = c .before .before .finish in
+    let b = set-clock .ensures (args .shape) s H in
+    let w = wake-due .ensures _ (b .holds) (valid-clock (b .holds .placed) v) in
+    ticks H v (clock-of .ensures _ s H) (wrapping-add-u16 .ensures) (w .0) (becomes-then b (w .1)) (finish .ensures _ (w .1 .holds))
 
 pub tick-spec : {M : Type 1} → statement M
 tick-spec =

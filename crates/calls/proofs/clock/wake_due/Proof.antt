@@ -28,7 +28,15 @@ add-p : tie.Need-add-p Inv-loop μ-loop
 add-p c = omega arith
 
 timer-of-requires : tie.Need-timer-of-requires Inv-loop μ-loop
-timer-of-requires c κs = let s = c .before .before .before .before .before .pre .state in let H = c .before .before .before .before .before .pre .holds in let v = c .before .before .before .before .before .pre .valid in let r = c .before .before .loop .inv .2 s H v in ((_, r .becomes .holds), bounds-inside (c .before .before .before .before .before .args .shape .processes) (c .before .before .loop .p + 1) (omega arith) (omega arith))
+timer-of-requires c κs =
+    let args = c .before .before .before .before .before .args in
+    let pre = c .before .before .before .before .before .pre in
+    let loop = c .before .before .loop in
+    let s = pre .state in
+    let H = pre .holds in
+    let v = pre .valid in
+    let r = loop .inv .2 s H v in
+    ((_, r .becomes .holds), bounds-inside (args .shape .processes) (loop .p + 1) (omega arith) (omega arith))
 
 rouse-requires : tie.Need-rouse-requires Inv-loop μ-loop
 rouse-requires c κs =
@@ -45,23 +53,36 @@ loop-less : tie.Need-loop-less Inv-loop μ-loop
 loop-less c = omega arith
 
 loop-again : tie.Need-loop-again Inv-loop μ-loop
-loop-again c = (
-  omega arith,
-  omega arith,
-  λ s H v.
-      let r = c .before .before .before .before .before .before .before .before .loop .inv .2 s H v in
-      let t = c .before .before .before .before .before .timer-of .ensures _ (r .becomes .holds) in
-      ringing-next H v r t (c .before .before .before .before .before .before .before .before .before .if1 .left) (c .before .before .before .before .if2 .taken) (c .before .before .rouse .ensures _ (r .becomes .holds) (ringing-waits H v r t (c .before .before .before .before .before .before .before .before .before .if1 .left) (c .before .before .before .before .if2 .taken) (omega arith))),
-)
+loop-again c =
+    let if1 = c .before .before .before .before .before .before .before .before .before .if1 in
+    let loop = c .before .before .before .before .before .before .before .before .loop in
+    let timer-of = c .before .before .before .before .before .timer-of in
+    let if2 = c .before .before .before .before .if2 in
+    let rouse = c .before .before .rouse in (
+      omega arith,
+      omega arith,
+      λ s H v.
+          let r = loop .inv .2 s H v in
+          let t = timer-of .ensures _ (r .becomes .holds) in
+          ringing-next H v r t (if1 .left) (if2 .taken) (rouse .ensures _ (r .becomes .holds) (ringing-waits H v r t (if1 .left) (if2 .taken) (omega arith))),
+    )
 
 loop-less-2 : tie.Need-loop-less-2 Inv-loop μ-loop
 loop-less-2 c = omega arith
 
 loop-again-2 : tie.Need-loop-again-2 Inv-loop μ-loop
-loop-again-2 c = (omega arith, omega arith, λ s H v. let r = c .before .before .before .before .loop .inv .2 s H v in let t = c .before .timer-of .ensures _ (r .becomes .holds) in ringing-skip H v r t (c .if2 .left))
+loop-again-2 c =
+    let loop = c .before .before .before .before .loop in
+    (omega arith, omega arith, λ s H v. let r = loop .inv .2 s H v in let t = c .before .timer-of .ensures _ (r .becomes .holds) in ringing-skip H v r t (c .if2 .left))
 
 same-length : tie.Need-same-length Inv-loop μ-loop
-same-length c = let s = c .before .before .before .before .pre .state in let H = c .before .before .before .before .pre .holds in let v = c .before .before .before .before .pre .valid in let r = c .before .loop .inv .2 s H v in as-long H (r .becomes)
+same-length c =
+    let pre = c .before .before .before .before .pre in
+    let s = pre .state in
+    let H = pre .holds in
+    let v = pre .valid in
+    let r = c .before .loop .inv .2 s H v in
+    as-long H (r .becomes)
 
 returns-2 : tie.Need-returns-2 Inv-loop μ-loop
 returns-2 c = λ s H v. ringing-end H v (c .before .loop .inv .2 s H v) (c .before .loop .inv .1) (c .loop-test .left)

@@ -17,7 +17,10 @@ queue-at-requires : tie.Need-queue-at-requires
 queue-at-requires c κs = search needs
 
 returns : tie.Need-returns
-returns c s H = let a = c .before .before .before .before .args in list-missing (none-by (a .shape) (a .kind) (a .number) (c .before .queue-at .ensures) (c .if1 .taken))
+returns c s H =
+    let args = c .before .before .before .before .args in
+    let a = args in
+    list-missing (none-by (a .shape) (a .kind) (a .number) (c .before .queue-at .ensures) (c .if1 .taken))
 
 -- there is such a queue
 found : (c : tie.Else1) → let a = c .before .before .before .before .args in Found (a .shape) (a .kind) (a .number) (c .before .queue-at .result)

@@ -35,8 +35,11 @@ park-at-requires c κs = search needs
 
 returns-5 : tie.Need-returns-5
 returns-5 c =
-    let a = c .before .before .before .before .before .before .args in
-    placed (a .shape) (a .number) 1 (c .before .before .before .if4 .taken) (is-inside _ _ (c .before .before .before .before .if3 .left) (c .before .if5 .left)) (park-place (a .shape) (a .number) (c .before .before .before .before .if3 .left) (c .park-at .ensures (a .shape)))
+    let args = c .before .before .before .before .before .before .args in
+    let if3 = c .before .before .before .before .if3 in
+    let if4 = c .before .before .before .if4 in
+    let a = args in
+    placed (a .shape) (a .number) 1 (if4 .taken) (is-inside _ _ (if3 .left) (c .before .if5 .left)) (park-place (a .shape) (a .number) (if3 .left) (c .park-at .ensures (a .shape)))
 
 returns-6 : tie.Need-returns-6
 returns-6 c =
@@ -48,8 +51,11 @@ lock-at-requires c κs = is-inside _ _ (c .before .before .before .before .if3 .
 
 returns-7 : tie.Need-returns-7
 returns-7 c =
-    let a = c .before .before .before .before .before .before .before .args in
-    placed (a .shape) (a .number) 2 (c .before .before .before .if6 .taken) (is-inside _ _ (c .before .before .before .before .before .if3 .left) (c .before .if7 .left)) (c .lock-at .ensures)
+    let args = c .before .before .before .before .before .before .before .args in
+    let if3 = c .before .before .before .before .before .if3 in
+    let if6 = c .before .before .before .if6 in
+    let a = args in
+    placed (a .shape) (a .number) 2 (if6 .taken) (is-inside _ _ (if3 .left) (c .before .if7 .left)) (c .lock-at .ensures)
 
 returns-8 : tie.Need-returns-8
 returns-8 c =
@@ -61,13 +67,19 @@ condition-at-requires c κs = is-inside _ _ (c .before .before .before .before .
 
 returns-9 : tie.Need-returns-9
 returns-9 c =
-    let a = c .before .before .before .before .before .before .before .before .args in
-    placed (a .shape) (a .number) 3 (c .before .before .before .if8 .taken) (is-inside _ _ (c .before .before .before .before .before .before .if3 .left) (c .before .if9 .left)) (c .condition-at .ensures)
+    let args = c .before .before .before .before .before .before .before .before .args in
+    let if3 = c .before .before .before .before .before .before .if3 in
+    let if8 = c .before .before .before .if8 in
+    let a = args in
+    placed (a .shape) (a .number) 3 (if8 .taken) (is-inside _ _ (if3 .left) (c .before .if9 .left)) (c .condition-at .ensures)
 
 returns-10 : tie.Need-returns-10
 returns-10 c =
-    let a = c .before .before .before .before .before .args in
-    unplaced (a .shape) (a .number) (a .kind) refl (no-kind _ _ _ (c .before .before .before .before .if1 .left) (c .before .before .if4 .left) (c .before .if6 .left) (c .if8 .left))
+    let args = c .before .before .before .before .before .args in
+    let if1 = c .before .before .before .before .if1 in
+    let if4 = c .before .before .if4 in
+    let a = args in
+    unplaced (a .shape) (a .number) (a .kind) refl (no-kind _ _ _ (if1 .left) (if4 .left) (c .before .if6 .left) (c .if8 .left))
 
 pub queue-at-spec : {M : Type 1} → statement M
 queue-at-spec =

@@ -15,7 +15,10 @@ same-length : tie.Need-same-length
 same-length c = search needs
 
 returns : tie.Need-returns
-returns c = λ s H v. exit-nobody H (c .before .before .before .before .before .args .lock) (c .before .before .running-of .ensures (c .before .before .before .before .before .args .shape) s H) (c .before .if1 .taken) (c .refusal .ensures)
+returns c s H v =
+    let args = c .before .before .before .before .before .args in
+    let running-of = c .before .before .running-of in
+    exit-nobody H (args .lock) (running-of .ensures (args .shape) s H) (c .before .if1 .taken) (c .refusal .ensures)
 
 refusal-requires-2 : tie.Need-refusal-requires-2
 refusal-requires-2 c κs = search needs
@@ -24,7 +27,11 @@ same-length-2 : tie.Need-same-length-2
 same-length-2 c = search needs
 
 returns-2 : tie.Need-returns-2
-returns-2 c = λ s H v. exit-no-lock H (c .before .before .before .before .before .before .args .lock) (c .before .before .before .running-of .ensures (c .before .before .before .before .before .before .args .shape) s H) (c .before .before .if1 .left) (zero-outside (c .before .before .before .before .before .before .args .shape .locks) (c .before .if2 .taken)) (c .refusal2 .ensures)
+returns-2 c s H v =
+    let args = c .before .before .before .before .before .before .args in
+    let running-of = c .before .before .before .running-of in
+    let if1 = c .before .before .if1 in
+    exit-no-lock H (args .lock) (running-of .ensures (args .shape) s H) (if1 .left) (zero-outside (args .shape .locks) (c .before .if2 .taken)) (c .refusal2 .ensures)
 
 refusal-requires-3 : tie.Need-refusal-requires-3
 refusal-requires-3 c κs = search needs
@@ -33,10 +40,17 @@ same-length-3 : tie.Need-same-length-3
 same-length-3 c = search needs
 
 returns-3 : tie.Need-returns-3
-returns-3 c = λ s H v. exit-no-lock H (c .before .before .before .before .before .before .before .before .args .lock) (c .before .before .before .before .before .running-of .ensures (c .before .before .before .before .before .before .before .before .args .shape) s H) (c .before .before .before .before .if1 .left) (above-outside (c .before .if3 .taken)) (c .refusal3 .ensures)
+returns-3 c s H v =
+    let args = c .before .before .before .before .before .before .before .before .args in
+    let running-of = c .before .before .before .before .before .running-of in
+    let if1 = c .before .before .before .before .if1 in
+    exit-no-lock H (args .lock) (running-of .ensures (args .shape) s H) (if1 .left) (above-outside (c .before .if3 .taken)) (c .refusal3 .ensures)
 
 holder-of-requires : tie.Need-holder-of-requires
-holder-of-requires c κs = ((c .before .before .before .before .before .before .before .before .pre .state, c .before .before .before .before .before .before .before .before .pre .holds), (is-inside _ _ (c .before .before .before .if2 .left) (c .before .if3 .left)))
+holder-of-requires c κs =
+    let pre = c .before .before .before .before .before .before .before .before .pre in
+    let if2 = c .before .before .before .if2 in
+    ((pre .state, pre .holds), (is-inside _ _ (if2 .left) (c .before .if3 .left)))
 
 refusal-requires-4 : tie.Need-refusal-requires-4
 refusal-requires-4 c κs = search needs
@@ -45,19 +59,40 @@ same-length-4 : tie.Need-same-length-4
 same-length-4 c = search needs
 
 returns-4 : tie.Need-returns-4
-returns-4 c = λ s H v. exit-foreign H (c .before .before .before .before .before .before .before .before .before .before .before .args .lock) (c .before .before .before .before .before .before .before .before .running-of .ensures (c .before .before .before .before .before .before .before .before .before .before .before .args .shape) s H) (c .before .before .before .before .before .before .before .if1 .left) (is-inside _ _ (c .before .before .before .before .before .before .if2 .left) (c .before .before .before .before .if3 .left)) (c .before .before .holder-of .ensures s H) (c .before .if4 .taken) (c .refusal4 .ensures)
+returns-4 c s H v =
+    let args = c .before .before .before .before .before .before .before .before .before .before .before .args in
+    let running-of = c .before .before .before .before .before .before .before .before .running-of in
+    let if1 = c .before .before .before .before .before .before .before .if1 in
+    let if2 = c .before .before .before .before .before .before .if2 in
+    let if3 = c .before .before .before .before .if3 in
+    let holder-of = c .before .before .holder-of in
+    exit-foreign H (args .lock) (running-of .ensures (args .shape) s H) (if1 .left) (is-inside _ _ (if2 .left) (if3 .left)) (holder-of .ensures s H) (c .before .if4 .taken) (c .refusal4 .ensures)
 
 release-requires : tie.Need-release-requires
 release-requires c κs = holder-of-requires (c .before .before .before) κs
 
 finish-requires : tie.Need-finish-requires
-finish-requires c κs = (_, c .before .before .before .release .ensures (c .before .before .before .before .before .before .before .before .before .before .before .before .before .before .before .pre .state) (c .before .before .before .before .before .before .before .before .before .before .before .before .before .before .before .pre .holds) .1 .holds)
+finish-requires c κs =
+    let pre = c .before .before .before .before .before .before .before .before .before .before .before .before .before .before .before .pre in
+    let release = c .before .before .before .release in
+    (_, release .ensures (pre .state) (pre .holds) .1 .holds)
 
 same-length-5 : tie.Need-same-length-5
 same-length-5 c = search needs
 
 returns-5 : tie.Need-returns-5
-returns-5 c = λ s H v. let b = c .before .before .before .before .before .before .release .ensures s H in exit-own H (c .before .before .before .before .before .before .before .before .before .before .before .before .before .before .before .before .before .before .args .lock) (c .before .before .before .before .before .before .before .before .before .before .before .before .before .before .before .running-of .ensures (c .before .before .before .before .before .before .before .before .before .before .before .before .before .before .before .before .before .before .args .shape) s H) (c .before .before .before .before .before .before .before .before .before .before .before .before .before .before .if1 .left) (is-inside _ _ (c .before .before .before .before .before .before .before .before .before .before .before .before .before .if2 .left) (c .before .before .before .before .before .before .before .before .before .before .before .if3 .left)) (c .before .before .before .before .before .before .before .before .before .holder-of .ensures s H) (c .before .before .before .before .before .before .before .before .if4 .left) b (c .before .before .finish .ensures _ (b .1 .holds))
+returns-5 c s H v =
+    let args = c .before .before .before .before .before .before .before .before .before .before .before .before .before .before .before .before .before .before .args in
+    let running-of = c .before .before .before .before .before .before .before .before .before .before .before .before .before .before .before .running-of in
+    let if1 = c .before .before .before .before .before .before .before .before .before .before .before .before .before .before .if1 in
+    let if2 = c .before .before .before .before .before .before .before .before .before .before .before .before .before .if2 in
+    let if3 = c .before .before .before .before .before .before .before .before .before .before .before .if3 in
+    let holder-of = c .before .before .before .before .before .before .before .before .before .holder-of in
+    let if4 = c .before .before .before .before .before .before .before .before .if4 in
+    let release = c .before .before .before .before .before .before .release in
+    let finish = c .before .before .finish in
+    let b = release .ensures s H in
+    exit-own H (args .lock) (running-of .ensures (args .shape) s H) (if1 .left) (is-inside _ _ (if2 .left) (if3 .left)) (holder-of .ensures s H) (if4 .left) b (finish .ensures _ (b .1 .holds))
 
 pub exit-spec : {M : Type 1} → statement M
 exit-spec =

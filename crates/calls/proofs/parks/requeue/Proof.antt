@@ -38,7 +38,15 @@ park-at-requires-2 : tie.Need-park-at-requires-2
 park-at-requires-2 c κs = search needs
 
 send-requires : tie.Need-send-requires
-send-requires c κs = between (c .before .before .before .before .before .before .before .before .before .before .before .args .source) (c .before .before .before .before .before .before .before .before .before .before .before .args .destination) (c .before .before .before .before .before .before .before .before .before .before .before .pre .holds) (c .before .before .before .before .before .before .before .before .if1 .left) (c .before .before .before .before .before .before .if2 .left) (c .before .before .park-at .ensures (c .before .before .before .before .before .before .before .before .before .before .before .args .shape)) (c .before .park-at2 .ensures (c .before .before .before .before .before .before .before .before .before .before .before .args .shape)) (c .before .before .before .before .before .if3 .left) (c .before .before .before .if4 .left)
+send-requires c κs =
+    let args = c .before .before .before .before .before .before .before .before .before .before .before .args in
+    let pre = c .before .before .before .before .before .before .before .before .before .before .before .pre in
+    let if1 = c .before .before .before .before .before .before .before .before .if1 in
+    let if2 = c .before .before .before .before .before .before .if2 in
+    let if3 = c .before .before .before .before .before .if3 in
+    let if4 = c .before .before .before .if4 in
+    let park-at = c .before .before .park-at in
+    between (args .source) (args .destination) (pre .holds) (if1 .left) (if2 .left) (park-at .ensures (args .shape)) (c .before .park-at2 .ensures (args .shape)) (if3 .left) (if4 .left)
 
 refusal-requires-5 : tie.Need-refusal-requires-5
 refusal-requires-5 c κs = search needs
@@ -48,29 +56,58 @@ same-length c = search needs
 
 returns-5 : tie.Need-returns-5
 returns-5 c s H v =
-    let t = c .before .before .before .before .send .ensures (between (c .before .before .before .before .before .before .before .before .before .before .before .before .before .before .before .before .args .source) (c .before .before .before .before .before .before .before .before .before .before .before .before .before .before .before .before .args .destination) H (c .before .before .before .before .before .before .before .before .before .before .before .before .before .if1 .left) (c .before .before .before .before .before .before .before .before .before .before .before .if2 .left) (c .before .before .before .before .before .before .before .park-at .ensures (c .before .before .before .before .before .before .before .before .before .before .before .before .before .before .before .before .args .shape)) (c .before .before .before .before .before .before .park-at2 .ensures (c .before .before .before .before .before .before .before .before .before .before .before .before .before .before .before .before .args .shape)) (c .before .before .before .before .before .before .before .before .before .before .if3 .left) (c .before .before .before .before .before .before .before .before .if4 .left)) in
-    let no = sym (t .told) ∙ not-true (c .before .before .before .before .send .result) (c .before .if5 .taken) in
-    requeue-absent H _ _ _ (c .before .before .before .before .before .before .before .before .before .before .before .before .before .if1 .left) (c .before .before .before .before .before .before .before .before .before .before .before .if2 .left) (c .before .before .before .before .before .before .before .before .before .before .if3 .left) (c .before .before .before .before .before .before .before .before .if4 .left) (t .kept no) no (c .refusal5 .ensures)
+    let args = c .before .before .before .before .before .before .before .before .before .before .before .before .before .before .before .before .args in
+    let if1 = c .before .before .before .before .before .before .before .before .before .before .before .before .before .if1 in
+    let if2 = c .before .before .before .before .before .before .before .before .before .before .before .if2 in
+    let if3 = c .before .before .before .before .before .before .before .before .before .before .if3 in
+    let if4 = c .before .before .before .before .before .before .before .before .if4 in
+    let park-at = c .before .before .before .before .before .before .before .park-at in
+    let park-at2 = c .before .before .before .before .before .before .park-at2 in
+    let send = c .before .before .before .before .send in
+    let t = send .ensures (between (args .source) (args .destination) H (if1 .left) (if2 .left) (park-at .ensures (args .shape)) (park-at2 .ensures (args .shape)) (if3 .left) (if4 .left)) in
+    let no = sym (t .told) ∙ not-true (send .result) (c .before .if5 .taken) in
+    requeue-absent H _ _ _ (if1 .left) (if2 .left) (if3 .left) (if4 .left) (t .kept no) no (c .refusal5 .ensures)
 
 arrives-requires : tie.Need-arrives-requires
 arrives-requires c κs = search needs
 
 finish-requires : tie.Need-finish-requires
 finish-requires c κs =
-    let H = c .before .before .before .before .before .before .before .before .before .before .before .before .before .before .before .before .before .pre .holds in
-    let t = c .before .before .before .before .before .send .ensures (between (c .before .before .before .before .before .before .before .before .before .before .before .before .before .before .before .before .before .args .source) (c .before .before .before .before .before .before .before .before .before .before .before .before .before .before .before .before .before .args .destination) H (c .before .before .before .before .before .before .before .before .before .before .before .before .before .before .if1 .left) (c .before .before .before .before .before .before .before .before .before .before .before .before .if2 .left) (c .before .before .before .before .before .before .before .before .park-at .ensures (c .before .before .before .before .before .before .before .before .before .before .before .before .before .before .before .before .before .args .shape)) (c .before .before .before .before .before .before .before .park-at2 .ensures (c .before .before .before .before .before .before .before .before .before .before .before .before .before .before .before .before .before .args .shape)) (c .before .before .before .before .before .before .before .before .before .before .before .if3 .left) (c .before .before .before .before .before .before .before .before .before .if4 .left)) in
-    (_, t .done (sym (t .told) ∙ not-false (c .before .before .before .before .before .send .result) (c .before .before .if5 .left)) .holds)
+    let args = c .before .before .before .before .before .before .before .before .before .before .before .before .before .before .before .before .before .args in
+    let pre = c .before .before .before .before .before .before .before .before .before .before .before .before .before .before .before .before .before .pre in
+    let if1 = c .before .before .before .before .before .before .before .before .before .before .before .before .before .before .if1 in
+    let if2 = c .before .before .before .before .before .before .before .before .before .before .before .before .if2 in
+    let if3 = c .before .before .before .before .before .before .before .before .before .before .before .if3 in
+    let if4 = c .before .before .before .before .before .before .before .before .before .if4 in
+    let park-at = c .before .before .before .before .before .before .before .before .park-at in
+    let park-at2 = c .before .before .before .before .before .before .before .park-at2 in
+    let send = c .before .before .before .before .before .send in
+    let if5 = c .before .before .if5 in
+    let H = pre .holds in
+    let t = send .ensures (between (args .source) (args .destination) H (if1 .left) (if2 .left) (park-at .ensures (args .shape)) (park-at2 .ensures (args .shape)) (if3 .left) (if4 .left)) in
+    (_, t .done (sym (t .told) ∙ not-false (send .result) (if5 .left)) .holds)
 
 same-length-2 : tie.Need-same-length-2
 same-length-2 c = search needs
 
 returns-6 : tie.Need-returns-6
 returns-6 c s H v =
-    let t = c .before .before .before .before .before .before .before .before .send .ensures (between (c .before .before .before .before .before .before .before .before .before .before .before .before .before .before .before .before .before .before .before .before .args .source) (c .before .before .before .before .before .before .before .before .before .before .before .before .before .before .before .before .before .before .before .before .args .destination) H (c .before .before .before .before .before .before .before .before .before .before .before .before .before .before .before .before .before .if1 .left) (c .before .before .before .before .before .before .before .before .before .before .before .before .before .before .before .if2 .left) (c .before .before .before .before .before .before .before .before .before .before .before .park-at .ensures (c .before .before .before .before .before .before .before .before .before .before .before .before .before .before .before .before .before .before .before .before .args .shape)) (c .before .before .before .before .before .before .before .before .before .before .park-at2 .ensures (c .before .before .before .before .before .before .before .before .before .before .before .before .before .before .before .before .before .before .before .before .args .shape)) (c .before .before .before .before .before .before .before .before .before .before .before .before .before .before .if3 .left) (c .before .before .before .before .before .before .before .before .before .before .before .before .if4 .left)) in
-    let m = sym (t .told) ∙ not-false (c .before .before .before .before .before .before .before .before .send .result) (c .before .before .before .before .before .if5 .left) in
+    let args = c .before .before .before .before .before .before .before .before .before .before .before .before .before .before .before .before .before .before .before .before .args in
+    let if1 = c .before .before .before .before .before .before .before .before .before .before .before .before .before .before .before .before .before .if1 in
+    let if2 = c .before .before .before .before .before .before .before .before .before .before .before .before .before .before .before .if2 in
+    let if3 = c .before .before .before .before .before .before .before .before .before .before .before .before .before .before .if3 in
+    let if4 = c .before .before .before .before .before .before .before .before .before .before .before .before .if4 in
+    let park-at = c .before .before .before .before .before .before .before .before .before .before .before .park-at in
+    let park-at2 = c .before .before .before .before .before .before .before .before .before .before .park-at2 in
+    let send = c .before .before .before .before .before .before .before .before .send in
+    let if5 = c .before .before .before .before .before .if5 in
+    let arrives = c .before .before .before .arrives in
+    let finish = c .before .before .finish in
+    let t = send .ensures (between (args .source) (args .destination) H (if1 .left) (if2 .left) (park-at .ensures (args .shape)) (park-at2 .ensures (args .shape)) (if3 .left) (if4 .left)) in
+    let m = sym (t .told) ∙ not-false (send .result) (if5 .left) in
     let b = t .done m in
-    requeue-moves H _ _ _ (c .before .before .before .before .before .before .before .before .before .before .before .before .before .before .before .before .before .if1 .left) (c .before .before .before .before .before .before .before .before .before .before .before .before .before .before .before .if2 .left) (c .before .before .before .before .before .before .before .before .before .before .before .before .before .before .if3 .left) (c .before .before .before .before .before .before .before .before .before .before .before .before .if4 .left) m
-    (c .before .before .before .arrives .ensures (c .before .before .before .before .before .before .before .before .before .before .before .before .before .before .before .before .before .before .before .before .args .process .0) (s .queues) m (not-ready H (c .before .before .before .before .before .before .before .before .before .before .before .before .before .before .before .before .before .before .before .before .args .source) (c .before .before .before .before .before .before .before .before .before .before .before .before .before .before .before .before .before .before .before .before .args .process .0) m)) b (c .before .before .finish .ensures _ (b .holds))
+    requeue-moves H _ _ _ (if1 .left) (if2 .left) (if3 .left) (if4 .left) m
+    (arrives .ensures (args .process .0) (s .queues) m (not-ready H (args .source) (args .process .0) m)) b (finish .ensures _ (b .holds))
 
 pub requeue-spec : {M : Type 1} → statement M
 requeue-spec =

@@ -20,7 +20,10 @@ same-length : tie.Need-same-length
 same-length c = search needs
 
 returns : tie.Need-returns
-returns c = λ s H v. set-priority-nobody H (c .before .before .before .before .before .args .priority) (c .before .before .running-of .ensures (c .before .before .before .before .before .args .shape) s H) (c .before .if1 .taken) (c .refusal .ensures)
+returns c s H v =
+    let args = c .before .before .before .before .before .args in
+    let running-of = c .before .before .running-of in
+    set-priority-nobody H (args .priority) (running-of .ensures (args .shape) s H) (c .before .if1 .taken) (c .refusal .ensures)
 
 refusal-requires-2 : tie.Need-refusal-requires-2
 refusal-requires-2 c κs = search needs
@@ -29,23 +32,44 @@ same-length-2 : tie.Need-same-length-2
 same-length-2 c = search needs
 
 returns-2 : tie.Need-returns-2
-returns-2 c = λ s H v. set-priority-high H (c .before .before .before .before .before .before .args .priority) (c .before .before .before .running-of .ensures (c .before .before .before .before .before .before .args .shape) s H) (c .before .before .if1 .left) (c .before .if2 .taken) (c .refusal2 .ensures)
+returns-2 c s H v =
+    let args = c .before .before .before .before .before .before .args in
+    let running-of = c .before .before .before .running-of in
+    let if1 = c .before .before .if1 in
+    set-priority-high H (args .priority) (running-of .ensures (args .shape) s H) (if1 .left) (c .before .if2 .taken) (c .refusal2 .ensures)
 
 ready-at-requires : tie.Need-ready-at-requires
 ready-at-requires c κs = search needs
 
 move-process-requires : tie.Need-move-process-requires
-move-process-requires c κs = ((going (c .before .before .before .before .before .before .before .pre .holds) ready ready refl refl (c .before .ready-at .ensures (c .before .before .before .before .before .before .before .args .shape)) (c .before .ready-at .ensures (c .before .before .before .before .before .before .before .args .shape)) (runner-stands (c .before .before .before .before .running-of .ensures (c .before .before .before .before .before .before .before .args .shape) (c .before .before .before .before .before .before .before .pre .state) (c .before .before .before .before .before .before .before .pre .holds)) (c .before .before .before .before .before .before .before .pre .valid) (c .before .before .before .if1 .left)) refl), omega (arith, c .before .before .if2 .left))
+move-process-requires c κs =
+    let args = c .before .before .before .before .before .before .before .args in
+    let pre = c .before .before .before .before .before .before .before .pre in
+    let running-of = c .before .before .before .before .running-of in
+    let if1 = c .before .before .before .if1 in
+    let if2 = c .before .before .if2 in
+    ((going (pre .holds) ready ready refl refl (c .before .ready-at .ensures (args .shape)) (c .before .ready-at .ensures (args .shape)) (runner-stands (running-of .ensures (args .shape) (pre .state) (pre .holds)) (pre .valid) (if1 .left)) refl), omega (arith, if2 .left))
 
 finish-requires : tie.Need-finish-requires
 unfolding move-process-requires
-finish-requires c κs = (_, c .before .before .before .move-process .ensures (move-process-requires (c .before .before .before .before) κs .0) .done refl .holds)
+finish-requires c κs =
+    let move-process = c .before .before .before .move-process in
+    (_, move-process .ensures (move-process-requires (c .before .before .before .before) κs .0) .done refl .holds)
 
 same-length-3 : tie.Need-same-length-3
 same-length-3 c = search needs
 
 returns-3 : tie.Need-returns-3
-returns-3 c = λ s H v. let b = c .before .before .before .before .before .before .move-process .ensures (going H ready ready refl refl (c .before .before .before .before .before .before .before .before .ready-at .ensures (c .before .before .before .before .before .before .before .before .before .before .before .before .before .before .args .shape)) (c .before .before .before .before .before .before .before .before .ready-at .ensures (c .before .before .before .before .before .before .before .before .before .before .before .before .before .before .args .shape)) (runner-stands (c .before .before .before .before .before .before .before .before .before .before .before .running-of .ensures (c .before .before .before .before .before .before .before .before .before .before .before .before .before .before .args .shape) s H) v (c .before .before .before .before .before .before .before .before .before .before .if1 .left)) refl) .done refl in set-priority-low H (c .before .before .before .before .before .before .before .before .before .before .before .before .before .before .args .priority) (c .before .before .before .before .before .before .before .before .before .before .before .running-of .ensures (c .before .before .before .before .before .before .before .before .before .before .before .before .before .before .args .shape) s H) (c .before .before .before .before .before .before .before .before .before .before .if1 .left) v (c .before .before .before .before .before .before .before .before .before .if2 .left) b (c .before .before .finish .ensures (sent (c .before .before .before .before .before .before .before .before .before .before .before .running-of .result) ready (with (priority (c .before .before .before .before .before .before .before .before .before .before .before .running-of .result)) (c .before .before .before .before .before .before .before .before .before .before .before .before .before .before .args .priority .0) s)) (b .holds))
+returns-3 c s H v =
+    let args = c .before .before .before .before .before .before .before .before .before .before .before .before .before .before .args in
+    let running-of = c .before .before .before .before .before .before .before .before .before .before .before .running-of in
+    let if1 = c .before .before .before .before .before .before .before .before .before .before .if1 in
+    let if2 = c .before .before .before .before .before .before .before .before .before .if2 in
+    let ready-at = c .before .before .before .before .before .before .before .before .ready-at in
+    let move-process = c .before .before .before .before .before .before .move-process in
+    let finish = c .before .before .finish in
+    let b = move-process .ensures (going H ready ready refl refl (ready-at .ensures (args .shape)) (ready-at .ensures (args .shape)) (runner-stands (running-of .ensures (args .shape) s H) v (if1 .left)) refl) .done refl in
+    set-priority-low H (args .priority) (running-of .ensures (args .shape) s H) (if1 .left) v (if2 .left) b (finish .ensures (sent (running-of .result) ready (with (priority (running-of .result)) (args .priority .0) s)) (b .holds))
 
 pub set-priority-spec : {M : Type 1} → statement M
 set-priority-spec =

@@ -20,7 +20,11 @@ returns-2 : tie.Need-returns-2
 returns-2 c s H v = naked-none H _ (inr (c .before .if2 .taken)) (c .refusal2 .ensures)
 
 signal-requires : tie.Need-signal-requires
-signal-requires c κs = ((c .before .before .before .before .before .pre .state, c .before .before .before .before .before .pre .holds), is-inside (c .before .before .before .before .before .args .shape .conditions) (c .before .before .before .before .before .args .condition) (c .before .before .before .if1 .left) (c .before .if2 .left))
+signal-requires c κs =
+    let args = c .before .before .before .before .before .args in
+    let pre = c .before .before .before .before .before .pre in
+    let if1 = c .before .before .before .if1 in
+    ((pre .state, pre .holds), is-inside (args .shape .conditions) (args .condition) (if1 .left) (c .before .if2 .left))
 
 same-length : tie.Need-same-length
 same-length c = search needs

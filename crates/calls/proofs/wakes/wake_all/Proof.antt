@@ -30,25 +30,59 @@ loop-holds : tie.Need-loop-holds Inv-loop μ-loop
 loop-holds c = λ s k H given here. waking-start H k (c .first-in .ensures s (condition k) H given here)
 
 wake-requires : tie.Need-wake-requires Inv-loop μ-loop
-wake-requires c κs = let q = c .before .before .before .before .before .before .pre in let H = q .1 .1 in let w = c .before .before .loop .inv (q .1 .0) (q .0) H (q .2) (q .3) in (_, condition (q .0), w .becomes .holds, q .2, q .3, member-inside _ _ (w .becomes .holds .placed) _ (condition (q .0)) (waking-member H (q .0) w (c .before .loop-test .taken)))
+wake-requires c κs =
+    let pre = c .before .before .before .before .before .before .pre in
+    let loop = c .before .before .loop in
+    let q = pre in
+    let H = q .1 .1 in
+    let w = loop .inv (q .1 .0) (q .0) H (q .2) (q .3) in
+    (_, condition (q .0), w .becomes .holds, q .2, q .3, member-inside _ _ (w .becomes .holds .placed) _ (condition (q .0)) (waking-member H (q .0) w (c .before .loop-test .taken)))
 
 add-moved : tie.Need-add-moved Inv-loop μ-loop
-add-moved c = let q = c .before .before .before .before .before .before .before .before .before .pre in let H = q .1 .1 in let w = c .before .before .before .before .before .loop .inv (q .1 .0) (q .0) H (q .2) (q .3) in omega (arith, waking-few H (q .0) w)
+add-moved c =
+    let pre = c .before .before .before .before .before .before .before .before .before .pre in
+    let loop = c .before .before .before .before .before .loop in
+    let q = pre in
+    let H = q .1 .1 in
+    let w = loop .inv (q .1 .0) (q .0) H (q .2) (q .3) in
+    omega (arith, waking-few H (q .0) w)
 
 first-in-requires-2 : tie.Need-first-in-requires-2 Inv-loop μ-loop
-first-in-requires-2 c κs = let q = c .before .before .before .before .before .before .before .before .before .before .pre in let H = q .1 .1 in let w = c .before .before .before .before .before .before .loop .inv (q .1 .0) (q .0) H (q .2) (q .3) in ((_, (c .before .before .before .wake .ensures _ (condition (q .0)) (w .becomes .holds) (q .2) (q .3) .done (waking-member H (q .0) w (c .before .before .before .before .before .loop-test .taken)) .holds)), (condition (q .0), q .2, q .3))
+first-in-requires-2 c κs =
+    let pre = c .before .before .before .before .before .before .before .before .before .before .pre in
+    let loop = c .before .before .before .before .before .before .loop in
+    let loop-test = c .before .before .before .before .before .loop-test in
+    let wake = c .before .before .before .wake in
+    let q = pre in
+    let H = q .1 .1 in
+    let w = loop .inv (q .1 .0) (q .0) H (q .2) (q .3) in
+    ((_, (wake .ensures _ (condition (q .0)) (w .becomes .holds) (q .2) (q .3) .done (waking-member H (q .0) w (loop-test .taken)) .holds)), (condition (q .0), q .2, q .3))
 
 loop-less : tie.Need-loop-less Inv-loop μ-loop
-loop-less c = let q = c .before .before .before .before .before .before .before .before .before .before .before .pre in let H = q .1 .1 in let w = c .before .before .before .before .before .before .before .loop .inv (q .1 .0) (q .0) H (q .2) (q .3) in omega (arith, waking-few H (q .0) w)
+loop-less c =
+    let pre = c .before .before .before .before .before .before .before .before .before .before .before .pre in
+    let loop = c .before .before .before .before .before .before .before .loop in
+    let q = pre in
+    let H = q .1 .1 in
+    let w = loop .inv (q .1 .0) (q .0) H (q .2) (q .3) in
+    omega (arith, waking-few H (q .0) w)
 
 loop-again : tie.Need-loop-again Inv-loop μ-loop
-loop-again c = λ s k H given here.
-    let w = c .before .before .before .before .before .before .before .loop .inv s k H given here in
-    let b = c .before .before .before .before .wake .ensures _ (condition k) (w .becomes .holds) given here .done (waking-member H k w (c .before .before .before .before .before .before .loop-test .taken)) in
-    waking-next H k w (c .before .before .before .before .before .before .loop-test .taken) b (c .first-in2 .ensures _ (condition k) (b .holds) given here)
+loop-again c s k H given here =
+    let loop = c .before .before .before .before .before .before .before .loop in
+    let loop-test = c .before .before .before .before .before .before .loop-test in
+    let wake = c .before .before .before .before .wake in
+    let w = loop .inv s k H given here in
+    let b = wake .ensures _ (condition k) (w .becomes .holds) given here .done (waking-member H k w (loop-test .taken)) in
+    waking-next H k w (loop-test .taken) b (c .first-in2 .ensures _ (condition k) (b .holds) given here)
 
 same-length : tie.Need-same-length Inv-loop μ-loop
-same-length c = let q = c .before .before .before .before .before .pre in let H = q .1 .1 in let w = c .before .loop .inv (q .1 .0) (q .0) H (q .2) (q .3) in as-long H (w .becomes)
+same-length c =
+    let pre = c .before .before .before .before .before .pre in
+    let q = pre in
+    let H = q .1 .1 in
+    let w = c .before .loop .inv (q .1 .0) (q .0) H (q .2) (q .3) in
+    as-long H (w .becomes)
 
 returns : tie.Need-returns Inv-loop μ-loop
 returns c = λ s k H given here. waking-end H k (c .before .loop .inv s k H given here) (c .loop-test .left)

@@ -39,7 +39,9 @@ made-if-requires-5 : tie.Need-made-if-requires-5
 made-if-requires-5 c κs = search needs
 
 returns-6 : tie.Need-returns-6
-returns-6 c = op-naked _ _ _ (c .before .if6 .taken) (c .before .before .before .before .before .before .before .no-two .ensures) (c .made-if5 .ensures)
+returns-6 c =
+    let no-two = c .before .before .before .before .before .before .before .no-two in
+    op-naked _ _ _ (c .before .if6 .taken) (no-two .ensures) (c .made-if5 .ensures)
 
 returns-7 : tie.Need-returns-7
 returns-7 c = op-requeue _ _ _ (c .if7 .taken) refl
@@ -48,7 +50,9 @@ made-if-requires-6 : tie.Need-made-if-requires-6
 made-if-requires-6 c κs = search needs
 
 returns-8 : tie.Need-returns-8
-returns-8 c = op-priority _ _ _ (c .before .if8 .taken) (c .before .before .before .before .before .before .before .before .before .no-two .ensures) (c .made-if6 .ensures)
+returns-8 c =
+    let no-two = c .before .before .before .before .before .before .before .before .before .no-two in
+    op-priority _ _ _ (c .before .if8 .taken) (no-two .ensures) (c .made-if6 .ensures)
 
 no-three-requires : tie.Need-no-three-requires
 no-three-requires c κs = search needs
@@ -60,7 +64,15 @@ returns-9 : tie.Need-returns-9
 returns-9 c = op-tick _ _ _ (c .before .before .if9 .taken) (c .before .no-three .ensures) (c .made-if7 .ensures)
 
 returns-10 : tie.Need-returns-10
-returns-10 c = op-none _ _ _ (c .before .before .before .before .before .before .before .before .if1 .left) (c .before .before .before .before .before .before .before .if2 .left) (c .before .before .before .before .before .before .if3 .left) (c .before .before .before .before .before .if4 .left) (c .before .before .before .before .if5 .left) (c .before .before .before .if6 .left) (c .before .before .if7 .left) (c .before .if8 .left) (c .if9 .left)
+returns-10 c =
+    let if1 = c .before .before .before .before .before .before .before .before .if1 in
+    let if2 = c .before .before .before .before .before .before .before .if2 in
+    let if3 = c .before .before .before .before .before .before .if3 in
+    let if4 = c .before .before .before .before .before .if4 in
+    let if5 = c .before .before .before .before .if5 in
+    let if6 = c .before .before .before .if6 in
+    let if7 = c .before .before .if7 in
+    op-none _ _ _ (if1 .left) (if2 .left) (if3 .left) (if4 .left) (if5 .left) (if6 .left) (if7 .left) (c .before .if8 .left) (c .if9 .left)
 
 pub operate-spec : {M : Type 1} → statement M
 operate-spec =

@@ -29,16 +29,28 @@ same-length-2 : tie.Need-same-length-2 Inv-loop μ-loop
 same-length-2 c = let l = doing-long (c .before .before .before .before .before .before .before .before .before .loop .inv .1) in search needs
 
 returns : tie.Need-returns Inv-loop μ-loop
-returns c = doing-stop (c .before .before .before .before .before .before .before .before .before .loop .inv .1) (c .before .before .before .before .before .before .before .before .loop-test .taken) (c .before .before .before .before .before .serve .ensures) (not-true _ (c .if1 .taken))
+returns c =
+    let loop = c .before .before .before .before .before .before .before .before .before .loop in
+    let loop-test = c .before .before .before .before .before .before .before .before .loop-test in
+    let serve = c .before .before .before .before .before .serve in
+    doing-stop (loop .inv .1) (loop-test .taken) (serve .ensures) (not-true _ (c .if1 .taken))
 
 add-done : tie.Need-add-done Inv-loop μ-loop
 add-done c = search needs
 
 loop-less : tie.Need-loop-less Inv-loop μ-loop
-loop-less c = let l = doing-long (c .before .before .before .before .before .before .before .before .before .loop .inv .1) in omega (arith, c .before .before .before .before .before .before .before .before .loop-test .taken)
+loop-less c =
+    let loop = c .before .before .before .before .before .before .before .before .before .loop in
+    let loop-test = c .before .before .before .before .before .before .before .before .loop-test in
+    let l = doing-long (loop .inv .1) in
+    omega (arith, loop-test .taken)
 
 loop-again : tie.Need-loop-again Inv-loop μ-loop
-loop-again c = (c .before .before .before .before .before .serve .kept .0 ∙ c .before .before .before .before .before .before .before .before .before .loop .inv .0, doing-next (c .before .before .before .before .before .before .before .before .before .loop .inv .1) (c .before .before .before .before .before .before .before .before .loop-test .taken) (c .before .before .before .before .before .serve .ensures) (not-false _ (c .if1 .left)))
+loop-again c =
+    let loop = c .before .before .before .before .before .before .before .before .before .loop in
+    let loop-test = c .before .before .before .before .before .before .before .before .loop-test in
+    let serve = c .before .before .before .before .before .serve in
+    (serve .kept .0 ∙ loop .inv .0, doing-next (loop .inv .1) (loop-test .taken) (serve .ensures) (not-false _ (c .if1 .left)))
 
 same-length-3 : tie.Need-same-length-3 Inv-loop μ-loop
 same-length-3 c = c .before .loop .inv .0

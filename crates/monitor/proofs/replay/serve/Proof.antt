@@ -33,7 +33,11 @@ same-length-2 : tie.Need-same-length-2
 same-length-2 c = search needs
 
 returns : tie.Need-returns
-returns c = served (sym (c .before .before .before .before .before .before .before .before .record-at .ensures) ∙ (c .before .before .before .before .before .before .call .given) .1) (c .before .before .before .perform .ensures) (c .pack .ensures) refl
+returns c =
+    let record-at = c .before .before .before .before .before .before .before .before .record-at in
+    let call = c .before .before .before .before .before .before .call in
+    let perform = c .before .before .before .perform in
+    served (sym (record-at .ensures) ∙ (call .given) .1) (perform .ensures) (c .pack .ensures) refl
 
 returns-2 : tie.Need-returns-2
 returns-2 c = not-served (sym (c .before .before .record-at .ensures) ∙ (c .enum-told .given) .1)

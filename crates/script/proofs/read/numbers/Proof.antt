@@ -44,13 +44,17 @@ same-length : tie.Need-same-length Inv-loop μ-loop
 same-length c = search needs
 
 returns : tie.Need-returns Inv-loop μ-loop
-returns c = let l = c .before .before .before .before .before .loop in
-    let a = now (c .before .before .before .before .before .before .before .before .args .line) in
-    let e = c .before .before .before .word-end .result in
+returns c =
+    let args = c .before .before .before .before .before .before .before .before .args in
+    let loop = c .before .before .before .before .before .loop in
+    let word-end = c .before .before .before .word-end in
+    let l = loop in
+    let a = now (args .line) in
+    let e = word-end .result in
     let w = take (e - (l .at + 1)) (drop (l .at + 1) a) in
-    let q : after (drop (l .at) a) ≡ number w ∷ after (drop e a) = after-on a (l .at) e (omega arith) (c .before .before .before .word-end .ensures .0) in
+    let q : after (drop (l .at) a) ≡ number w ∷ after (drop e a) = after-on a (l .at) e (omega arith) (word-end .ensures .0) in
     let v : c .before .value .result ≡ clipped (number w) = c .before .value .ensures in
-    numbers-stop (after (drop (c .before .before .before .before .before .before .before .before .args .from) a)) (after (drop e a)) (number w) (l .inv .1 .1 .1 .1 ∙ ap (within 65535) q) (clip-above (number w) (omega arith))
+    numbers-stop (after (drop (args .from) a)) (after (drop e a)) (number w) (l .inv .1 .1 .1 .1 ∙ ap (within 65535) q) (clip-above (number w) (omega arith))
 
 cast-table : tie.Need-cast-table Inv-loop μ-loop
 cast-table c = search needs
@@ -68,21 +72,27 @@ loop-less : tie.Need-loop-less Inv-loop μ-loop
 loop-less c = search needs
 
 loop-again : tie.Need-loop-again Inv-loop μ-loop
-loop-again c = let l = c .before .before .before .before .before .loop in
-    let a = now (c .before .before .before .before .before .before .before .before .args .line) in
-    let e = c .before .before .before .word-end .result in
+loop-again c =
+    let args = c .before .before .before .before .before .before .before .before .args in
+    let loop = c .before .before .before .before .before .loop in
+    let word-end = c .before .before .before .word-end in
+    let l = loop in
+    let a = now (args .line) in
+    let e = word-end .result in
     let w = take (e - (l .at + 1)) (drop (l .at + 1) a) in
-    let q : after (drop (l .at) a) ≡ number w ∷ after (drop e a) = after-on a (l .at) e (omega arith) (c .before .before .before .word-end .ensures .0) in
+    let q : after (drop (l .at) a) ≡ number w ∷ after (drop e a) = after-on a (l .at) e (omega arith) (word-end .ensures .0) in
     let v : c .before .value .result ≡ clipped (number w) = c .before .value .ensures in
     let x : c .before .value .result ≡ number w = v ∙ clip-exact (number w) (omega arith) in
-    (omega arith, (omega arith, (simp length-set (l .inv .1 .1 .0), (rw x (numbers-put (after (drop (c .before .before .before .before .before .before .before .before .args .from) a)) (after (drop e a)) (number w) (l .table) (l .count) (omega arith) (l .inv .1 .1 .1 .0 ∙ ap (λ (r : List ℕ). take (l .count) (l .table) ++ r) q)), numbers-on (after (drop (c .before .before .before .before .before .before .before .before .args .from) a)) (after (drop e a)) (number w) (l .inv .1 .1 .1 .1 ∙ ap (within 65535) q) (omega arith)))))
+    (omega arith, (omega arith, (simp length-set (l .inv .1 .1 .0), (rw x (numbers-put (after (drop (args .from) a)) (after (drop e a)) (number w) (l .table) (l .count) (omega arith) (l .inv .1 .1 .1 .0 ∙ ap (λ (r : List ℕ). take (l .count) (l .table) ++ r) q)), numbers-on (after (drop (args .from) a)) (after (drop e a)) (number w) (l .inv .1 .1 .1 .1 ∙ ap (within 65535) q) (omega arith)))))
 
 same-length-2 : tie.Need-same-length-2 Inv-loop μ-loop
 same-length-2 c = search needs
 
 returns-2 : tie.Need-returns-2 Inv-loop μ-loop
-returns-2 c = let l = c .before .loop in
-    let a = now (c .before .before .before .before .args .line) in
+returns-2 c =
+    let args = c .before .before .before .before .args in
+    let l = c .before .loop in
+    let a = now (args .line) in
     let q : after (drop (l .at) a) ≡ [] = after-last a (l .at) (omega arith) in
     (omega arith, (sym (l .inv .1 .1 .1 .0 ∙ ap (λ (r : List ℕ). take (l .count) (l .table) ++ r) q ∙ append-nil (take (l .count) (l .table))), l .inv .1 .1 .1 .1 ∙ ap (within 65535) q))
 

@@ -46,7 +46,9 @@ loop-less : tie.Need-loop-less Inv-loop μ-loop
 loop-less c = search needs
 
 loop-again : tie.Need-loop-again Inv-loop μ-loop
-loop-again c = let l = c .before .before .before .loop in
+loop-again c =
+    let loop = c .before .before .before .loop in
+    let l = loop in
     (omega arith, (simp length-set (l .inv .1 .0), (copied _ _ (l .at) (omega arith) (omega arith) (l .inv .1 .1 .0), l .inv .1 .1 .1 ∙ within-on 255 _ (l .at) (omega arith) (c .if1 .left))))
 
 same-length-2 : tie.Need-same-length-2 Inv-loop μ-loop

@@ -37,15 +37,24 @@ same-length : tie.Need-same-length
 same-length c = search needs
 
 returns : tie.Need-returns
-returns c = let p = c .before .before .before .before .before .before .before .put-bytes in
-    (omega (arith, p .kept), started-all (now (c .before .before .before .before .before .before .before .before .before .before .before .before .args .numbers)) _ (p .result) (omega (arith, c .before .before .before .before .before .before .before .before .before .before .before .before .pre)) (p .ensures) (c .before .before .before .before .if1 .taken))
+returns c =
+    let args = c .before .before .before .before .before .before .before .before .before .before .before .before .args in
+    let pre = c .before .before .before .before .before .before .before .before .before .before .before .before .pre in
+    let put-bytes = c .before .before .before .before .before .before .before .put-bytes in
+    let if1 = c .before .before .before .before .if1 in
+    let p = put-bytes in
+    (omega (arith, p .kept), started-all (now (args .numbers)) _ (p .result) (omega (arith, pre)) (p .ensures) (if1 .taken))
 
 same-length-2 : tie.Need-same-length-2
 same-length-2 c = search needs
 
 returns-2 : tie.Need-returns-2
-returns-2 c = let p = c .before .before .before .put-bytes in
-    started-none (now (c .before .before .before .before .before .before .before .before .args .numbers)) _ (p .result) (omega (arith, c .before .before .before .before .before .before .before .before .pre)) (p .ensures) (c .if1 .left)
+returns-2 c =
+    let args = c .before .before .before .before .before .before .before .before .args in
+    let pre = c .before .before .before .before .before .before .before .before .pre in
+    let put-bytes = c .before .before .before .put-bytes in
+    let p = put-bytes in
+    started-none (now (args .numbers)) _ (p .result) (omega (arith, pre)) (p .ensures) (c .if1 .left)
 
 pub start-of-spec : {M : Type 1} → statement M
 start-of-spec =

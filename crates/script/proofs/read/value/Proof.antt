@@ -49,18 +49,24 @@ loop-less c = search needs
 
 loop-again : tie.Need-loop-again Inv-loop μ-loop
 loop-again c =
-    let l = c .before .before .before .before .before .loop in
-    let w = now (c .before .before .before .before .before .before .before .before .args .word) in
+    let args = c .before .before .before .before .before .before .before .before .args in
+    let loop = c .before .before .before .before .before .loop in
+    let if2 = c .before .before .if2 in
+    let l = loop in
+    let w = now (args .word) in
     let g = c .grown in
-    let e = value-on w (l .at) (l .sum) (omega arith) (is-digit (getD w (l .at) 0) (c .before .before .if2 .left) (c .before .if3 .left)) in
+    let e = value-on w (l .at) (l .sum) (omega arith) (is-digit (getD w (l .at) 0) (if2 .left) (c .before .if3 .left)) in
     let n = l .sum * 10 + (getD w (l .at) 0 - 48) in
     let q : g .result ≡ clipped n = g .ensures in
     (omega arith, (omega (arith, clip-le n), clip-value (g .result) n (drop (l .at + 1) w) (ap clipped q ∙ clip-twice n) ∙ ap clipped (sym e) ∙ l .inv .1 .1))
 
 returns-4 : tie.Need-returns-4 Inv-loop μ-loop
-returns-4 c = let l = c .before .loop in
-    let w = now (c .before .before .before .before .args .word) in
-    sym (ap clipped (number-some w (c .before .before .if1 .left)) ∙ sym (l .inv .1 .1) ∙ ap clipped (value-last w (l .at) (l .sum) (omega arith)) ∙ clip-low (l .sum) (omega arith))
+returns-4 c =
+    let args = c .before .before .before .before .args in
+    let if1 = c .before .before .if1 in
+    let l = c .before .loop in
+    let w = now (args .word) in
+    sym (ap clipped (number-some w (if1 .left)) ∙ sym (l .inv .1 .1) ∙ ap clipped (value-last w (l .at) (l .sum) (omega arith)) ∙ clip-low (l .sum) (omega arith))
 
 pub value-spec : {M : Type 1} → statement M
 value-spec =

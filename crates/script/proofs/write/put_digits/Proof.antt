@@ -41,16 +41,20 @@ loop-less : tie.Need-loop-less Inv-loop μ-loop
 loop-less c = search needs
 
 loop-again : tie.Need-loop-again Inv-loop μ-loop
-loop-again c = let l = c .before .loop in
-    let a = c .before .before .args in
+loop-again c =
+    let args = c .before .before .args in
+    let l = c .before .loop in
+    let a = args in
     (omega arith, (omega arith, (simp length-set (l .inv .1 .1 .0), (take-set-le (a .at) (l .out) (l .i - 1) (48 + l .rest % 10) (omega arith) ∙ l .inv .1 .1 .1 .0, digits-on (l .out) (a .at) (a .at + a .count) (l .i) (l .rest) _ (omega arith) (omega arith) (omega arith) (l .inv .1 .1 .1 .1)))))
 
 same-length : tie.Need-same-length Inv-loop μ-loop
 same-length c = search needs
 
 returns : tie.Need-returns Inv-loop μ-loop
-returns c = let l = c .before .loop in
-    let a = c .before .before .args in
+returns c =
+    let args = c .before .before .args in
+    let l = c .before .loop in
+    let a = args in
     digits-end (l .out) (now (a .out)) (a .at) (a .at + a .count) (l .i) (l .rest) _ (omega arith) (omega arith) (l .inv .1 .1 .1 .0) (l .inv .1 .1 .1 .1)
 
 pub put-digits-spec : {M : Type 1} → statement M

@@ -26,11 +26,16 @@ same-length : tie.Need-same-length
 same-length c = search needs
 
 returns : tie.Need-returns
-returns c = let a = c .before .before .before .before .before .before .args in
-    let k = c .before .before .before .before .digit-count in
-    let p = c .before .before .put-digits in
+returns c =
+    let args = c .before .before .before .before .before .before .args in
+    let pre = c .before .before .before .before .before .before .pre in
+    let digit-count = c .before .before .before .before .digit-count in
+    let put-digits = c .before .before .put-digits in
+    let a = args in
+    let k = digit-count in
+    let p = put-digits in
     record {
-      bytes = field-put (now (a .out)) (p .last .0) (a .at) (k .result) (a .n) (a .after) (k .ensures .0) (omega (arith, p .kept .0, k .ensures .1, c .before .before .before .before .before .before .pre)) (p .ensures);
+      bytes = field-put (now (a .out)) (p .last .0) (a .at) (k .result) (a .n) (a .after) (k .ensures .0) (omega (arith, p .kept .0, k .ensures .1, pre)) (p .ensures);
       near = omega (arith, k .ensures .1);
     }
 
