@@ -1,32 +1,29 @@
 -- A process moves from one queue of a state to another: it leaves, takes its priority and waiting bit, and joins. The rings are then those of
 -- the state in which it has moved, each process stands in one of them, once, and so the words are the ones that this state prescribes.
 -- Assumes nothing.
-use Prim.Native.Nat.{ℕ, zero, suc, _+_, _-_, _≤_, _<_}
-use native.Mathlib.Decide.{ℕ-discrete}
+use Prim.Native.Nat.{ℕ, _-_, _≤_, _<_}
 use native.Mathlib.Omega.{arith}
 use mathlib.Core.Path.{_≡_, refl, sym, ap, _∙_, subst, fun-ext}
-use mathlib.Core.Bool.{Bool, true, false, _&&_, cond, true≢false, false≢true}
+use mathlib.Core.Bool.{true, false, _&&_}
 use mathlib.Core.Logic.{_≢_}
-use mathlib.Core.List.{List, [], _∷_, _++_}
+use mathlib.Core.List.{List, [], _∷_}
 use lib.ListN.{length, drop, length-drop}
-use lib.Dec.{eqb}
 use Rattle.model.specs.declared.Shape.{Shape}
-use Rattle.model.specs.Queue.{Queue, inside, exists, same, bit, member, count, remove, insert, move, Falling}
+use Rattle.model.specs.Queue.{Queue, inside, exists, bit, member, count, remove, insert, move}
 use Rattle.model.specs.Field.{Field, Fields, put, priorities}
-use Rattle.model.specs.Field.Field.{priority, holder}
+use Rattle.model.specs.Field.Field.{priority}
 use Rattle.model.specs.Machine as machine
 use Rattle.model.specs.Machine.{State, model}
 use Rattle.model.specs.History.{isCondition}
 use Rattle.model.specs.Valid.{room, Placed}
-use Rattle.model.proofs.Tests.{Case, holds, fails, SameCase, same-case, same-yes, EqCase, eqb-case, eqb-yes, eqb-no, PutCase, put-case, put-here, put-away, bit-small, denied}
+use Rattle.model.proofs.Tests.{holds, fails, SameCase, same-case, EqCase, eqb-case, PutCase, put-case, put-away, bit-small, denied}
 use Rattle.model.proofs.Lists.{SameOff, falling-remove, remove-absent, absent-count, count-remove-same, member-bit}
 use Rattle.model.proofs.Places as places
 use Rattle.model.proofs.Places.{stands-move, waiting-is, falling-moves}
-use Rattle.model.proofs.Simulation.{Agree, lead}
+use Rattle.model.proofs.Simulation.{lead}
 use Rattle.ring.specs.Link as link
-use Rattle.ring.specs.Ring.{Linked, Ring}
+use Rattle.ring.specs.Ring.{Linked}
 use Rattle.ring.proofs.Rings.{ring-same}
-use Rattle.ring.proofs.Places.{insert-agree}
 use Rattle.area.specs.Layout.{Part, Parts, alter, recordsAt, size, has, home, Image, Stored}
 use Rattle.area.specs.Layout.Part.{kept, tail, next, locked, waiting}
 use Rattle.area.specs.State.{last, queues, nextIn, laid}
@@ -34,7 +31,7 @@ use Rattle.area.specs.Holds.{Holds, Becomes, Moves, with, sent}
 use Rattle.area.specs.Rings.{records, Rings, swap, ranks, Relinked, Leaves, Joins}
 use Rattle.area.proofs.Stores.{alter-here, alter-away, image-ext}
 use Rattle.area.proofs.Rings.{ring-ext, member-inside, one-queue, rings-laid}
-use Rattle.area.proofs.Records.{records-long, next-said, queue-ring}
+use Rattle.area.proofs.Records.{next-said, queue-ring}
 
 -- a state's rings
 pub rings-of : {n : Shape} {ws : List ℕ} {s : State model} → Holds n ws s → Rings n ws (laid n s) (s .queues)

@@ -1,20 +1,18 @@
 -- A field of the state and its word change together: the changed part is what the changed state prescribes, and nothing else that it
 -- prescribes goes by that field, but for a lock's locked bit, which goes by its holder. Assumes nothing.
-use Prim.Native.Nat.{ℕ, _+_, _*_, _<_, _≤_}
-use native.Mathlib.Decide.{ℕ-discrete}
+use Prim.Native.Nat.{ℕ, _<_}
 use native.Mathlib.Omega.{arith}
 use mathlib.Core.Path.{_≡_, refl, sym, ap, _∙_, subst, fun-ext}
-use mathlib.Core.Bool.{Bool, true, false, cond}
-use mathlib.Core.List.{List, [], _∷_}
+use mathlib.Core.List.{List}
 use mathlib.Core.Logic.{_≢_}
 use Rattle.model.specs.declared.Shape.{Shape}
-use Rattle.model.specs.Queue.{Queue, bit, Falling}
-use Rattle.model.specs.Field.{Field, Fields, put, some, priorities}
-use Rattle.model.specs.Field.Field.{clock, running, priority, timer, failed, holder, wakeup}
+use Rattle.model.specs.Queue.{bit, Falling}
+use Rattle.model.specs.Field.{Field, put, some}
+use Rattle.model.specs.Field.Field.{priority, holder}
 use Rattle.model.specs.Machine.{State, model}
 use Rattle.model.specs.Valid.{room, Placed}
-use Rattle.model.proofs.Tests.{Case, holds, fails, PutCase, put-case, put-here, put-away, EqCase, eqb-case}
-use Rattle.area.specs.Layout.{Part, Parts, alter, home, has, Image, Stored}
+use Rattle.model.proofs.Tests.{holds, fails, PutCase, put-case, put-here, put-away, EqCase, eqb-case}
+use Rattle.area.specs.Layout.{Part, Parts, alter, Stored}
 use Rattle.area.specs.Layout.Part.{kept, tail, next, locked, waiting}
 use Rattle.area.specs.State.{laid}
 use Rattle.area.specs.Holds.{Holds, Becomes, with}

@@ -1,26 +1,25 @@
 -- The records, lent to the rings: what a link says in the part is what it says in the area, a change of nexts alone changes the nexts of the
 -- area's parts and no other, and each queue of a state is a ring of the records. Assumes nothing.
-use Prim.Native.Nat.{ℕ, zero, suc, _+_, _-_, _*_, _/_, _%_, _≤_, _<_}
+use Prim.Native.Nat.{ℕ, _+_, _-_, _*_, _/_, _%_, _≤_, _<_}
 use native.Mathlib.Nat.{le-of-eq}
 use native.Mathlib.Decide.{ℕ-discrete}
 use native.Mathlib.Omega.{arith}
 use borrow.Rule.Slice.PartMut.{midOf, putMid}
-use mathlib.Core.Path.{_≡_, refl, sym, ap, _∙_, subst}
+use mathlib.Core.Path.{_≡_, refl, sym, ap, _∙_}
 use mathlib.Core.Bool.{Bool, true, false}
 use mathlib.Core.Logic.{_≢_}
-use mathlib.Core.List.{List, [], _∷_, _++_, append-nil}
-use lib.ListN.{length, getD, drop, take, length-append, length-drop, take-append-drop, drop-of-length-le, List·getD-append}
-use lib.Seq.{ext-getD, getD-append-add, getD-drop, getD-take, length-take-le, take-all, drop-at, take-at}
+use mathlib.Core.List.{List, _++_, append-nil}
+use lib.ListN.{length, getD, drop, take, length-append, length-drop, drop-of-length-le, List·getD-append}
+use lib.Seq.{ext-getD, getD-append-add, getD-drop, getD-take, length-take-le, take-all}
 use Rattle.model.specs.declared.Shape.{Shape}
 use Rattle.model.specs.Queue.{Queue, inside, exists, member}
 use Rattle.model.specs.Queue.Queue.{ready, park, lock, condition}
-use Rattle.model.specs.Field.Field.{clock, running, priority, timer, failed, holder, wakeup}
+use Rattle.model.specs.Field.Field.{priority, failed}
 use Rattle.model.specs.Machine.{State, model}
-use Rattle.model.specs.Valid.{Placed}
 use Rattle.model.proofs.Tests.{inside-bounds}
 use Rattle.ring.specs.Link as link
 use Rattle.ring.specs.Link.{Stands, slot}
-use Rattle.ring.specs.Ring.{lastOf, Linked, Ring}
+use Rattle.ring.specs.Ring.{Ring}
 use Rattle.ring.proofs.Frame.{Kept}
 use Rattle.area.specs.Layout.{Part, Parts, Slot, word, span, home, recordsAt, size, at, has, Image, Stored}
 use Rattle.area.specs.Layout.Part.{kept, tail, next, locked, waiting}
@@ -28,9 +27,7 @@ use Rattle.area.specs.Layout.Slot.{Processes, LocksConditions, Parks, Cl
 use Rattle.area.specs.State.{last, queues, nextIn, laid}
 use Rattle.area.specs.Holds.{Holds}
 use Rattle.area.specs.Rings.{records}
-use Rattle.area.proofs.Addresses.{at-below}
-use Rattle.area.proofs.Stores.{load}
-use Rattle.area.proofs.Whole.{Counts, counts-in}
+use Rattle.area.proofs.Whole.{counts-in}
 use Rattle.area.proofs.Rings.{ring-ext, queue-once, member-inside, laid-ring}
 
 -- ---- a part from a on, lent and back

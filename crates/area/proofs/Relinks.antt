@@ -1,20 +1,20 @@
 -- One ring becomes another list, and its tail word is written: the other rings stay, since the change touches the links of this one alone.
 -- Assumes nothing.
-use Prim.Native.Nat.{ℕ, zero, suc, _+_, _-_, _*_, _/_, _%_, _≤_, _<_}
+use Prim.Native.Nat.{ℕ, _+_, _-_, _*_, _/_, _%_, _<_}
 use native.Mathlib.Decide.{ℕ-discrete}
 use native.Mathlib.Omega.{arith}
 use borrow.Rule.Slice.PartMut.{midOf, putMid}
 use mathlib.Core.Path.{_≡_, refl, sym, ap, _∙_, subst}
-use mathlib.Core.Bool.{Bool, true, false, cond, true≢false, false≢true}
+use mathlib.Core.Bool.{true, false, true≢false}
 use mathlib.Core.Logic.{_≢_}
-use mathlib.Core.List.{List, [], _∷_, _++_}
+use mathlib.Core.List.{List, _∷_, _++_}
 use lib.Dec.{eqb}
 use lib.ListN.{length, getD, drop, take, set, length-append}
 use lib.Seq.{drop-set-lt, length-take-le, drop-append-seam}
 use Rattle.model.specs.declared.Shape.{Shape}
-use Rattle.model.specs.Queue.{Queue, inside, exists, same, bit, member, remove, insert, Falling}
+use Rattle.model.specs.Queue.{Queue, inside, exists, bit, member, remove, insert, Falling}
 use Rattle.model.specs.Queue.Queue.{ready, park, lock, condition}
-use Rattle.model.proofs.Tests.{Case, holds, fails, SameCase, same-case, EqCase, eqb-case, eqb-no, inside-bounds, denied}
+use Rattle.model.proofs.Tests.{holds, fails, SameCase, same-case, EqCase, eqb-case, eqb-no, inside-bounds, denied}
 use Rattle.model.proofs.Lists.{member-count, counted-member, count-remove-other, count-insert}
 use Rattle.ring.specs.Link as link
 use Rattle.ring.specs.Link.{relink, Stands}
@@ -22,7 +22,7 @@ use Rattle.ring.specs.Ring.{Ring, Left, Joined}
 use Rattle.ring.proofs.Frame.{Kept, left-kept, left-ring, joined-kept, joined-ring}
 use Rattle.ring.proofs.Rings.{ring-tail-small}
 use Rattle.ring.proofs.Places.{falling-agree, insert-agree}
-use Rattle.area.specs.Layout.{Part, Parts, alter, recordsAt, at, has, Image, Stored}
+use Rattle.area.specs.Layout.{Part, Parts, alter, recordsAt, at, Stored}
 use Rattle.area.specs.Layout.Part.{kept, tail, next, locked, waiting}
 use Rattle.area.specs.Layout.Slot.{Tail}
 use Rattle.area.specs.State.{last}

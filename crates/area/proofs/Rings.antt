@@ -1,25 +1,24 @@
 -- The rings of a state: the nexts that it prescribes make a ring of each of its queues, and nexts that make rings of its queues are those
 -- that it prescribes, since each process stands in one queue, once. Assumes nothing.
-use Prim.Native.Nat.{ℕ, zero, suc, _+_, _≤_, _<_}
+use Prim.Native.Nat.{ℕ, zero, suc, _+_, _≤_}
 use native.Mathlib.Decide.{ℕ-discrete}
 use native.Mathlib.Omega.{arith}
-use mathlib.Core.Path.{_≡_, refl, sym, ap, _∙_, subst}
-use mathlib.Core.Bool.{Bool, true, false, _&&_, cond, true≢false, false≢true}
+use mathlib.Core.Path.{_≡_, refl, sym, ap, _∙_}
+use mathlib.Core.Bool.{Bool, true, false, _&&_, true≢false, false≢true}
 use mathlib.Core.List.{List, [], _∷_, _++_}
 use mathlib.Core.Logic.{_≢_, _⊎_, inl, inr}
-use lib.ListN.{length}
 use lib.Dec.{eqb}
 use Rattle.model.specs.declared.Shape.{Shape}
 use Rattle.model.specs.Queue.{Queue, inside, bit, same, exists, member, count, first}
 use Rattle.model.specs.Queue.Queue.{ready, park, lock, condition}
 use Rattle.model.specs.Machine.{State, model}
 use Rattle.model.specs.Valid.{Placed}
-use Rattle.model.proofs.Tests.{Case, holds, fails, EqCase, eqb-case, eqb-yes, eqb-no, inside-bounds, bounds-inside, bit-small}
-use Rattle.model.proofs.Lists.{member-count, absent-count, member-here, member-there, nobody}
-use Rattle.model.proofs.Places.{stands-at, at-place, queue-length}
+use Rattle.model.proofs.Tests.{holds, fails, EqCase, eqb-case, eqb-yes, eqb-no, inside-bounds, bounds-inside, bit-small}
+use Rattle.model.proofs.Lists.{member-count, member-here, member-there, nobody}
+use Rattle.model.proofs.Places.{stands-at, at-place}
 use Rattle.ring.specs.Ring.{lastOf, Linked}
 use Rattle.area.specs.Layout.{forEach}
-use Rattle.area.specs.State.{last, firstOr, afterIn, queues, nextIn}
+use Rattle.area.specs.State.{last, afterIn, queues, nextIn}
 
 -- ---- chains
 

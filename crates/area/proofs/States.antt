@@ -3,31 +3,31 @@
 use Prim.Native.Nat.{ℕ, zero, suc, _+_, _*_, _/_, _%_, _≤_, _<_}
 use native.Mathlib.Omega.{arith}
 use mathlib.Core.Path.{_≡_, refl, sym, ap, _∙_, subst, fun-ext}
-use mathlib.Core.Bool.{Bool, true, false, _&&_, cond, true≢false, false≢true}
-use mathlib.Core.List.{List, [], _∷_, _++_}
+use mathlib.Core.Bool.{Bool, true, false, cond, true≢false}
+use mathlib.Core.List.{List, [], _∷_}
 use mathlib.Core.Logic.{_≢_}
 use lib.ListN.{length, getD}
 use lib.Dec.{eqb}
 use Rattle.model.specs.declared.Shape.{Shape}
-use Rattle.model.specs.Queue.{Queue, inside, bit, exists, member, count, first}
+use Rattle.model.specs.Queue.{Queue, inside, bit, exists, member, first}
 use Rattle.model.specs.Queue.Queue.{ready, park, lock, condition}
-use Rattle.model.specs.Field.{Field, Fields}
+use Rattle.model.specs.Field.{Field}
 use Rattle.model.specs.Field.Field.{clock, running, priority, timer, failed, holder, wakeup}
 use Rattle.model.specs.Machine as machine
 use Rattle.model.specs.Machine.{State, model}
 use Rattle.model.specs.Valid.{each, room, Placed, Valid}
-use Rattle.model.proofs.Tests.{EqCase, holds, fails, eqb-case, eqb-yes, eqb-no, inside-bounds, bit-small}
+use Rattle.model.proofs.Tests.{holds, eqb-yes, eqb-no, inside-bounds, bit-small}
 use Rattle.model.proofs.Lists.{member-here, member-there}
 use Rattle.model.proofs.Places.{queue-length, waiting-is}
 use Rattle.ring.specs.Ring.{lastOf, Linked}
-use Rattle.area.specs.Layout.{Part, Parts, Slot, word, span, home, unit, at, has, Image, Stored}
+use Rattle.area.specs.Layout.{Part, Slot, word, span, home, at, has, Image}
 use Rattle.area.specs.Layout.Part.{kept, tail, next, locked, waiting}
 use Rattle.area.specs.Layout.Slot.{Processes, LocksConditions, Parks, Clock, Running, Tail, Holder, Link, Flags, Timer}
 use Rattle.area.specs.State.{last, firstOr, afterIn, queues, nextIn, laid}
 use Rattle.area.specs.Reading.{shapeOf, partsOf, readFrom, queueOf, stateOf}
 use Rattle.area.specs.Sound.{Numbered, Tidy, Says, Sound}
 use Rattle.area.proofs.Stores.{parts-said}
-use Rattle.area.proofs.Whole.{Counts, counts-in, image-shape}
+use Rattle.area.proofs.Whole.{counts-in, image-shape}
 use Rattle.area.proofs.Rings.{ring-ext, last-member, Once, once-rest, once-apart, member-inside, queue-once, queue-none, laid-ring, rings-laid}
 
 -- ---- the words of a placed state have room for it

@@ -1,27 +1,24 @@
 -- The store law: the word that a part's home takes when the part changes makes an area of the changed parts, and no other. A word goes by
 -- the parts that it is home to and by nothing else, and no other slot has its address. Assumes nothing.
-use Prim.Native.Nat.{ℕ, zero, suc, _+_, _-_, _*_, _/_, _%_, _≤_, _<_}
-use native.Mathlib.Nat.{zero-add, suc-add, le-of-eq}
+use Prim.Native.Nat.{ℕ, _+_, _-_, _*_, _/_, _%_, _<_}
 use native.Mathlib.Decide.{ℕ-discrete}
 use native.Mathlib.Omega.{arith}
-use borrow.Rule.Slice.PartMut.{midOf, putMid}
-use mathlib.Core.Path.{_≡_, refl, sym, ap, ap₂, _∙_}
+use mathlib.Core.Path.{_≡_, refl, sym, ap, _∙_}
 use mathlib.Core.Bool.{true}
-use mathlib.Core.List.{List, [], _∷_, _++_, map, append-nil}
-use lib.ListN.{length, getD, drop, take, set, length-append, length-set, length-drop, length-map, take-append-drop, drop-of-length-le, List·getD-append}
-use lib.Seq.{getD-append-add, getD-set-same, getD-set-other, ext-getD, getD-drop, getD-take, length-take-le, take-all, drop-set-lt}
+use mathlib.Core.List.{List}
+use lib.ListN.{length, getD, set, length-set}
+use lib.Seq.{getD-set-same, getD-set-other, drop-set-lt}
 use Rattle.model.specs.declared.Shape.{Shape}
-use Rattle.model.specs.Queue.{Queue, Queue-discrete}
+use Rattle.model.specs.Queue.{Queue-discrete}
 use Rattle.model.specs.Queue.Queue.{ready, park, lock, condition}
 use Rattle.model.specs.Field.{Field-discrete}
 use Rattle.model.specs.Field.Field.{clock, running, priority, timer, failed, holder, wakeup}
-use Rattle.model.specs.Rules.{counted}
-use Rattle.model.proofs.Tests.{Case, holds, fails, decided-case, passes, stops}
-use Rattle.area.specs.Layout.{Part, Parts, Part-discrete, alter, Slot, slots, word, span, unit, home, locksAt, conditionsAt, recordsAt, size, at, has, Image, Stored}
+use Rattle.model.proofs.Tests.{decided-case, passes, stops}
+use Rattle.area.specs.Layout.{Part, Parts, Part-discrete, alter, Slot, word, span, unit, home, size, at, has, Image, Stored}
 use Rattle.area.specs.Layout.Part.{kept, tail, next, locked, waiting}
 use Rattle.area.specs.Layout.Slot.{Processes, LocksConditions, Parks, Clock, Running, Tail, Holder, Link, Flags, Timer}
-use Rattle.area.specs.Reading.{shapeOf, partsOf}
-use Rattle.area.proofs.Addresses.{slots-long, slot-at, at-one, at-below, cover}
+use Rattle.area.specs.Reading.{partsOf}
+use Rattle.area.proofs.Addresses.{at-one, at-below}
 
 -- ---- one part changed
 

@@ -8,7 +8,7 @@ use Rattle.model.specs.declared.Shape.{Shape}
 use Rattle.model.specs.declared.Answer.{Answer}
 use Rattle.model.specs.Queue.{Queue, bit, inside, exists, member, move}
 use Rattle.model.specs.Queue.Queue.{ready}
-use Rattle.model.specs.Field.{Field, Fields, put, priorities}
+use Rattle.model.specs.Field.{Field, put, priorities}
 use Rattle.model.specs.Machine.{State, model, dispatch}
 use Rattle.model.specs.Valid.{Placed}
 use Rattle.model.specs.History.{isCondition}

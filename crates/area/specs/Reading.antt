@@ -1,14 +1,14 @@
 -- What words say, whatever they are: the counts, and the state that they would hold. Assumes nothing.
 use Prim.Native.Nat.{ℕ, zero, suc, _/_, _%_}
-use mathlib.Core.Bool.{Bool, true, false, cond}
+use mathlib.Core.Bool.{cond}
 use mathlib.Core.List.{List, [], _∷_}
 use lib.Dec.{eqb}
 use lib.ListN.{getD}
 use Rattle.model.specs.declared.Shape.{Shape}
-use Rattle.model.specs.Queue.{Queue, exists}
+use Rattle.model.specs.Queue.{Queue}
 use Rattle.model.specs.Machine.{State, model}
-use Rattle.area.specs.Layout.{Part, Parts, at, has, home, span, unit}
-use Rattle.area.specs.Layout.Part.{kept, tail, next, locked, waiting}
+use Rattle.area.specs.Layout.{Parts, at, has, home, span, unit}
+use Rattle.area.specs.Layout.Part.{kept, tail, next}
 
 -- the counts
 abbrev pub shapeOf : List ℕ → Shape

@@ -1,6 +1,6 @@
 -- The words of a state: the tails and nexts that make rings of its queues, and the bits that it says by them. Assumes nothing.
 use Prim.Native.Nat.{ℕ}
-use mathlib.Core.Bool.{Bool, true, false, cond}
+use mathlib.Core.Bool.{cond}
 use mathlib.Core.List.{List, [], _∷_, _++_, map}
 use lib.Dec.{eqb}
 use lib.ListN.{drop}
@@ -10,7 +10,7 @@ use Rattle.model.specs.Queue.Queue.{ready, park, lock, condition}
 use Rattle.model.specs.Machine as machine
 use Rattle.model.specs.Machine.{State, model}
 use Rattle.ring.specs.Ring.{lastOf}
-use Rattle.area.specs.Layout.{Part, Parts, forEach, slots, word, size}
+use Rattle.area.specs.Layout.{Parts, forEach, slots, word, size}
 use Rattle.area.specs.Layout.Part.{kept, tail, next, locked, waiting}
 
 -- the tail of a queue, 0 if it is empty

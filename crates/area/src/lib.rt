@@ -2,8 +2,8 @@
 use model::Shape;
 ghost use mathlib.Core.Path.{_≡_};
 ghost use mathlib.Core.Bool.{true};
-ghost use mathlib.Core.List.{List, _++_};
-ghost use Prim.Native.Nat.{ℕ, _+_, _*_, _/_, _%_, _<_, _≤_};
+ghost use mathlib.Core.List.{_++_};
+ghost use Prim.Native.Nat.{_+_, _*_, _/_, _%_, _<_, _≤_};
 ghost use lib.ListN.{length, drop};
 ghost use Rattle.model.specs.declared.Shape.{Shape};
 ghost use Rattle.model.specs.Queue.{Queue, inside, exists, bit, remove, insert, first};
@@ -12,13 +12,12 @@ ghost use Rattle.model.specs.Field.{some};
 ghost use Rattle.model.specs.Field.Field.{clock, running, priority, timer, failed, holder, wakeup};
 ghost use Rattle.model.specs.Rules.{readyOrPark};
 ghost use Rattle.model.specs.Machine.{State, model, retry};
-ghost use Rattle.model.specs.History.{isCondition};
-ghost use Rattle.area.specs.Layout.{Parts, at, recordsAt, size, alter, Image, Stored};
+ghost use Rattle.area.specs.Layout.{Parts, at, recordsAt, alter, Image, Stored};
 ghost use Rattle.area.specs.Layout.Part.{kept, waiting};
 ghost use Rattle.area.specs.Layout.Slot.{Tail, Link};
 ghost use Rattle.area.specs.Reading.{shapeOf};
 ghost use Rattle.area.specs.Holds.{Holds, Held, Becomes, Tried, Moves, with, sent, dispatched};
-ghost use Rattle.area.specs.Rings.{Rings, Leaves, Joins, Relinked, ranks};
+ghost use Rattle.area.specs.Rings.{Leaves, Joins, Relinked, ranks};
 
 pub mod answers;
 

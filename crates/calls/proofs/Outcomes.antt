@@ -1,18 +1,18 @@
 -- What a call comes to, by its tests: a refusal leaves the area, and an accepted call makes its changes and moves and then dispatches.
 -- Assumes nothing.
 use Prim.Native.Nat.{ℕ}
-use mathlib.Core.Path.{_≡_, refl, sym, ap, _∙_, subst}
+use mathlib.Core.Path.{_≡_}
 use mathlib.Core.Bool.{Bool, true, false}
-use mathlib.Core.List.{List, []}
+use mathlib.Core.List.{List}
 use Rattle.model.specs.declared.Shape.{Shape}
 use Rattle.model.specs.declared.Call.{Call}
 use Rattle.model.specs.declared.Answer.{Answer}
-use Rattle.model.specs.Queue.{Queue, Note}
+use Rattle.model.specs.Queue.{Note}
 use Rattle.model.specs.Queue.Queue.{ready}
 use Rattle.model.specs.Field.{Fields, priorities}
 use Rattle.model.specs.Rules.{Effect, unless, choose, decide}
 use Rattle.model.specs.Rules.Effect.{refuse, accept}
-use Rattle.model.specs.Machine.{State, model, moves, arrivals, finish, obey, step, refusal}
+use Rattle.model.specs.Machine.{State, model, moves, arrivals, finish, step, refusal}
 use Rattle.area.specs.Holds.{Holds, Becomes, Gives}
 use Rattle.area.proofs.Puts.{becomes-none, becomes-then}
 use Rattle.calls.specs.Parts.{Does, changed}

@@ -10,7 +10,7 @@ use lib.ListN.{length, length-append}
 use Rattle.model.specs.declared.Shape.{Shape}
 use Rattle.model.specs.declared.Answer.{Answer}
 use Rattle.model.specs.declared.Call.the-variants.{Notify, Broadcast, Naked}
-use Rattle.model.specs.Queue.{Queue, inside, exists, member, first, firstOnly, toReady}
+use Rattle.model.specs.Queue.{inside, member, first, firstOnly, toReady}
 use Rattle.model.specs.Queue.Queue.{ready, condition}
 use Rattle.model.specs.Field.{Fields, put, priorities}
 use Rattle.model.specs.Field.Field.{running, timer, wakeup}
@@ -22,8 +22,7 @@ use Rattle.model.proofs.Lists.{first-member}
 use Rattle.model.proofs.Places.{moves-append, toReady-append, queue-length}
 use Rattle.model.proofs.Loops.{emptying, queue-moved, first-moved}
 use Rattle.area.specs.Layout.{at}
-use Rattle.area.specs.Layout.Slot.{Tail}
-use Rattle.area.specs.Holds.{Holds, Becomes, Moves, Gives}
+use Rattle.area.specs.Holds.{Holds, Becomes, Gives}
 use Rattle.area.proofs.Puts.{becomes-none, becomes-then}
 use Rattle.area.proofs.Whole.{counts-in}
 use Rattle.calls.specs.Parts.{Does, changed}

@@ -1,11 +1,10 @@
 -- What a call promises on an area that holds a valid state: it becomes one that holds the state of its rule. Assumes nothing.
 use Prim.Native.Nat.{ℕ}
-use mathlib.Core.Path.{_≡_}
 use mathlib.Core.List.{List}
 use Rattle.model.specs.declared.Shape.{Shape}
 use Rattle.model.specs.declared.Call.{Call}
 use Rattle.model.specs.declared.Answer.{Answer}
-use Rattle.model.specs.Queue.{Queue, Note, move}
+use Rattle.model.specs.Queue.{Note}
 use Rattle.model.specs.Field.{Fields, priorities}
 use Rattle.model.specs.Machine.{State, model, moves, step}
 use Rattle.model.specs.Valid.{Valid}

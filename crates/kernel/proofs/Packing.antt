@@ -1,7 +1,7 @@
 -- Each field comes back: every answer of a call has fields below 1,024, and ten bits hold such a number. Assumes nothing.
 use Prim.Native.Nat.{ℕ, _+_, _*_, _/_, _%_, _^_, _≤_, _<_}
 use native.Mathlib.Omega.{arith}
-use mathlib.Core.Path.{_≡_, refl, sym, ap, _∙_, subst}
+use mathlib.Core.Path.{_≡_, refl, sym, ap, _∙_}
 use mathlib.Core.Logic.{_≢_}
 use mathlib.Core.Bool.{Bool, true, false, not, cond, true≢false}
 use mathlib.Core.List.{List}
@@ -11,16 +11,16 @@ use Rattle.model.specs.declared.Shape.{Shape}
 use Rattle.model.specs.declared.Call.{Call}
 use Rattle.model.specs.declared.Answer.{Answer}
 use Rattle.model.specs.Rules.{counted, anyAbove, startCode}
-use Rattle.model.specs.Machine.{model, step, start, refusal}
+use Rattle.model.specs.Machine.{refusal}
 use Rattle.model.proofs.Kept.{Small, step-small, start-small, start-valid}
 use Rattle.model.proofs.Places.{queue-length}
 use Rattle.area.specs.Layout.{size}
 use Rattle.area.specs.Reading.{shapeOf, stateOf}
 use Rattle.area.specs.Sound.{Sound}
-use Rattle.area.proofs.Whole.{Counts, counts-in}
+use Rattle.area.proofs.Whole.{counts-in}
 use Rattle.start.specs.Start.{startOn, Starts}
 use Rattle.calls.specs.declared.listing.Listed.{Listed}
-use Rattle.calls.specs.Listing.{queueBy, isQueue}
+use Rattle.calls.specs.Listing.{queueBy}
 use Rattle.monitor.specs.Calls.{Performs, ListsOn}
 use Rattle.monitor.proofs.History.{start-accepted}
 use Rattle.monitor.specs.Wire.{packed, unpacked, Carries, packedList, CarriesList}

@@ -1,6 +1,6 @@
 -- The arrival ledger (01's term): a machine that keeps no queues, only notes of who went where, oldest first. Assumes nothing.
 use Prim.Native.Nat.{ℕ, zero, suc}
-use mathlib.Core.Bool.{Bool, true, false, _||_, cond}
+use mathlib.Core.Bool.{Bool, false, _||_, cond}
 use mathlib.Core.List.{List, [], _∷_, _++_}
 use lib.Dec.{eqb}
 use Rattle.model.specs.Queue.{Queue, Note, same}

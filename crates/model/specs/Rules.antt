@@ -11,7 +11,7 @@ use Rattle.model.specs.declared.Call.{Call}
 use Rattle.model.specs.declared.Call.the-variants.{Enter, Exit, Wait, Notify, Broadcast, Naked, Requeue, SetPriority, Tick}
 use Rattle.model.specs.Queue.{Queue, Note, outside, inside, upTo, member, firstOnly, filter, toReady}
 use Rattle.model.specs.Queue.Queue.{ready, park, lock, condition}
-use Rattle.model.specs.Field.{Field, Fields, put, some}
+use Rattle.model.specs.Field.{Fields, put, some}
 use Rattle.model.specs.Field.Field.{clock, running, priority, timer, failed, holder, wakeup}
 
 -- ---- what a call comes to

@@ -2,12 +2,12 @@
 -- Locked and waiting are no clauses: a state says them by its holders and its queues. Assumes nothing.
 use Prim.Native.Nat.{ℕ, suc, _<_}
 use mathlib.Core.Path.{_≡_}
-use mathlib.Core.Bool.{Bool, true, false, _&&_, cond}
+use mathlib.Core.Bool.{true, false, _&&_, cond}
 use mathlib.Core.List.{[]}
 use Rattle.model.specs.declared.Shape.{Shape}
 use Rattle.model.specs.Queue.{Queue, inside, bit, same, exists, member, count, first, Falling}
-use Rattle.model.specs.Queue.Queue.{ready, park, lock, condition}
-use Rattle.model.specs.Field.{Field, Fields, some, priorities}
+use Rattle.model.specs.Queue.Queue.{ready, lock, condition}
+use Rattle.model.specs.Field.{Field, some, priorities}
 use Rattle.model.specs.Field.Field.{clock, running, priority, timer, failed, holder, wakeup}
 use Rattle.model.specs.Rules.{counted}
 use Rattle.model.specs.Machine.{State, model, waiting}

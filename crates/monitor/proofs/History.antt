@@ -4,14 +4,14 @@ use Prim.Native.Nat.{ℕ, _+_, _≤_}
 use native.Mathlib.Omega.{arith}
 use mathlib.Core.Path.{_≡_, refl, sym, ap, _∙_, subst}
 use mathlib.Core.Logic.{_≢_, _↔_}
-use mathlib.Core.Bool.{Bool, true, false, cond}
-use mathlib.Core.List.{List, [], _∷_, _++_}
+use mathlib.Core.Bool.{Bool, true, false}
+use mathlib.Core.List.{List, [], _∷_}
 use lib.Dec.{eqb, ltb}
-use lib.ListN.{length, drop}
+use lib.ListN.{length}
 use Rattle.model.specs.declared.Shape.{Shape}
 use Rattle.model.specs.declared.Call.{Call}
 use Rattle.model.specs.declared.Answer.{Answer}
-use Rattle.model.specs.Queue.{Queue, inside, bit, count, first, All}
+use Rattle.model.specs.Queue.{bit, count, first, All}
 use Rattle.model.specs.Queue.Queue.{ready}
 use Rattle.model.specs.Field.{Fields}
 use Rattle.model.specs.Field.Field.{running}
@@ -21,11 +21,11 @@ use Rattle.model.specs.Machine.{State, model, step, start, after, answers}
 use Rattle.model.specs.Ledger.{ledger}
 use Rattle.model.specs.History.{History, isEntry, isLeaving, tally, end, replies}
 use Rattle.model.specs.Valid.{Valid}
-use Rattle.model.proofs.Tests.{Case, holds, fails, eqb-case, so, not-below}
+use Rattle.model.proofs.Tests.{Case, holds, fails, eqb-case, not-below}
 use Rattle.model.proofs.Kept.{step-valid, start-valid}
 use Rattle.model.proofs.History.{history}
 use Rattle.area.specs.Layout.{size, Image}
-use Rattle.area.specs.Layout.Part.{locked, waiting}
+use Rattle.area.specs.Layout.Part.{locked}
 use Rattle.area.specs.State.{laid, write}
 use Rattle.area.specs.Reading.{shapeOf, partsOf, stateOf}
 use Rattle.area.specs.Sound.{Says, Sound}

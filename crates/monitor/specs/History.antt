@@ -2,9 +2,8 @@
 use Prim.Native.Nat.{ℕ, _+_}
 use mathlib.Core.Path.{_≡_}
 use mathlib.Core.Logic.{_≢_, _↔_}
-use mathlib.Core.Bool.{Bool, true, _&&_}
+use mathlib.Core.Bool.{true, _&&_}
 use mathlib.Core.List.{List, [], _∷_}
-use lib.ListN.{length, drop}
 use Rattle.model.specs.declared.Shape.{Shape}
 use Rattle.model.specs.declared.Call.{Call}
 use Rattle.model.specs.declared.Answer.{Answer}
@@ -13,10 +12,8 @@ use Rattle.model.specs.Queue.Queue.{ready}
 use Rattle.model.specs.Field.{Field, priorities}
 use Rattle.model.specs.Field.Field.{running}
 use Rattle.model.specs.Machine as machine
-use Rattle.model.specs.Machine.{State, start}
 use Rattle.model.specs.Ledger.{ledger, reading, lies}
 use Rattle.model.specs.History.{isEntry, isLeaving, tally, end, replies, isCondition}
-use Rattle.area.specs.Layout.{size}
 use Rattle.area.specs.Layout.Part.{locked, waiting}
 use Rattle.area.specs.Reading.{shapeOf, partsOf, stateOf}
 use Rattle.area.specs.Sound.{Sound}

@@ -12,7 +12,7 @@ use Rattle.monitor.specs.Calls.{Performs}
 use Rattle.script.specs.declared.read.Parsed.{Parsed}
 use Rattle.script.specs.declared.read.Parsed.the-variants as parsed
 use Rattle.script.specs.Line.{Meaning}
-use Rattle.script.specs.Line.Meaning.{call, start, none}
+use Rattle.script.specs.Line.Meaning.{call, none}
 use Rattle.script.specs.Print.{printed}
 use Rattle.script.specs.Read.{Tells}
 use Rattle.rehearse.specs.Serve.{Serves}

@@ -1,5 +1,4 @@
 // Rehearse: calls from standard input, one a line, performed on an area of 8,192 words, each answer a line. Assumes nothing.
-ghost use mathlib.Core.Path.{_≡_};
 ghost use Prim.Native.Nat.{_+_, _<_, _≤_};
 ghost use lib.ListN.{length, take};
 ghost use Rattle.script.specs.Line.{meaning};

@@ -1,13 +1,13 @@
 -- Laws on digits written from the last to the first, and on rows put one behind the other. Assumes nothing.
-use Prim.Native.Nat.{ℕ, zero, suc, _+_, _-_, _/_, _%_, _≤_, _<_}
-use mathlib.Core.Path.{_≡_, refl, sym, ap, _∙_}
+use Prim.Native.Nat.{ℕ, suc, _+_, _-_, _/_, _%_, _≤_, _<_}
+use mathlib.Core.Path.{_≡_, sym, ap, _∙_}
 use mathlib.Core.List.{List, [], _∷_, _++_, append-assoc, append-nil}
 use native.Mathlib.Omega.{arith}
 use native.Mathlib.Numerals.{add-one}
 use native.Mathlib.Nat.{add-sub-cancel-left}
-use lib.ListN.{length, getD, take, drop, set, drop-of-length-le, take-append-drop}
+use lib.ListN.{length, take, drop, set, drop-of-length-le, take-append-drop}
 use lib.Seq.{length-take-le, lt-length-set, drop-cons, getD-set-same, drop-set-lt, take-set-lt, take-take, take-suc-set}
-use Rattle.script.specs.Print.{digits, width, field, decimal}
+use Rattle.script.specs.Print.{digits, width, field}
 
 -- before the first: all digits are to come
 pub digits-start : (l : List ℕ) (at k n : ℕ) → at + k ≤ length l → digits (at + k - at) n ++ drop (at + k) (take (at + k) l) ≡ digits k n

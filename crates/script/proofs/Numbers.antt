@@ -1,19 +1,19 @@
 -- Laws on the numbers that follow a word, read one at a time. Assumes nothing.
-use Prim.Native.Nat.{ℕ, suc, _+_, _-_, _≤_, _<_}
-use mathlib.Core.Path.{_≡_, refl, sym, ap, _∙_, subst}
-use mathlib.Core.Bool.{Bool, true, false, cond}
-use mathlib.Core.List.{List, [], _∷_, _++_, map, append-assoc, append-nil}
+use Prim.Native.Nat.{ℕ, _+_, _-_, _≤_, _<_}
+use mathlib.Core.Path.{_≡_, ap, _∙_, subst}
+use mathlib.Core.Bool.{true, false, cond}
+use mathlib.Core.List.{List, [], _∷_, _++_, map, append-assoc}
 use native.Mathlib.Omega.{arith}
 use native.Mathlib.Numerals.{add-one}
 use native.Mathlib.Nat.{add-sub-cancel-left}
 use borrow.Author.Tests.{le-leb, lt-leb}
-use lib.ListN.{length, getD, take, drop, set}
+use lib.ListN.{length, take, drop, set}
 use lib.Seq.{drop-cons, drop-length, drop-drop, take-suc-set}
-use Rattle.script.specs.Line.{Meaning, fields, number, within, nameOf, said, spoken, meaning}
+use Rattle.script.specs.Line.{fields, number, within, nameOf, said, spoken, meaning}
 use Rattle.script.specs.Line.Meaning.{none}
 use Rattle.script.specs.declared.read.Found.{Found}
 use Rattle.script.specs.declared.read.Found.the-variants.{Numbers, Nothing}
-use Rattle.script.specs.Read.{clipped, word, after, Reads}
+use Rattle.script.specs.Read.{word, after, Reads}
 use Rattle.script.proofs.Words.{word-take, later, fields-word, after-later}
 
 -- after a space stand the next word's number and the numbers after that word

@@ -1,13 +1,12 @@
 -- What Start's row of numbers comes to, by whether its bytes are bytes. Assumes nothing.
 use Prim.Native.Nat.{ℕ, _-_, _≤_}
-use mathlib.Core.Path.{_≡_, refl, sym, ap, subst}
+use mathlib.Core.Path.{_≡_, subst}
 use mathlib.Core.Bool.{Bool, true, false}
 use mathlib.Core.List.{List, [], _∷_}
 use native.Mathlib.Omega.{arith}
 use lib.ListN.{length, getD, take, drop}
 use lib.Seq.{take-length}
-use Rattle.model.specs.declared.Shape.{Shape}
-use Rattle.script.specs.Line.{Meaning, started}
+use Rattle.script.specs.Line.{started}
 use Rattle.script.specs.Line.Meaning.{start, none}
 use Rattle.script.specs.Read.{Bytes}
 

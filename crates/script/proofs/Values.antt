@@ -1,14 +1,14 @@
 -- Laws on the value of a row of digits, read one digit at a time and clipped at 65,536. Assumes nothing.
-use Prim.Native.Nat.{ℕ, suc, _+_, _-_, _*_, _≤_, _<_}
+use Prim.Native.Nat.{ℕ, _+_, _-_, _*_, _≤_, _<_}
 use mathlib.Core.Path.{_≡_, refl, sym, ap, _∙_}
-use mathlib.Core.Bool.{Bool, true, false, _&&_, cond}
-use mathlib.Core.List.{List, [], _∷_, _++_}
+use mathlib.Core.Bool.{Bool, true, false, cond}
+use mathlib.Core.List.{List, [], _∷_}
 use native.Mathlib.Omega.{arith}
 use native.Mathlib.Numerals.{add-one}
 use borrow.Author.Tests.{leb-true, leb-false, le-leb, lt-leb}
 use lib.Dec.{leb}
 use lib.ListN.{length, getD, take, drop, set}
-use lib.Seq.{drop-cons, drop-length, take-suc, take-suc-set, take-length}
+use lib.Seq.{drop-cons, drop-length, take-suc, take-suc-set}
 use Rattle.script.specs.Line.{digit, valueFrom, number, within}
 use Rattle.script.specs.Read.{clipped}
 

@@ -2,7 +2,7 @@
 ghost use mathlib.Core.Path.{_≡_};
 ghost use Prim.Native.Nat.{_+_, _*_, _≤_, _<_};
 ghost use mathlib.Core.List.{_∷_, []};
-ghost use lib.ListN.{length, take, drop};
+ghost use lib.ListN.{length, drop};
 ghost use Rattle.script.specs.Line.{number, same, nameOf, started, said, meaning};
 ghost use Rattle.script.specs.Read.{clipped, word, after, Reads, Bytes, Calls, Tells};
 use model::Call;

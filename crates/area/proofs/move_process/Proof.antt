@@ -1,7 +1,7 @@
 -- `area::move_process` meets its contract: leaving, the priority with the waiting bit, and joining make the move. Assumes nothing.
 use borrow.Author.Needs.{needs}
 use borrow.Author.Tests.{not-false, not-true}
-use mathlib.Core.Path.{refl, sym, _∙_}
+use mathlib.Core.Path.{sym, _∙_}
 use Rattle.area.proofs.Tries.{did, did-not}
 use Rattle.area.proofs.Moves.{move-waits, move-leaves, move-joins, moved}
 use Rattle.area.proofs.move_process.Statement.{statement}

@@ -1,8 +1,4 @@
 -- `area::put_in` meets its contract: the records are lent to the rings, and what comes back changes one ring. Assumes nothing.
-use native.Mathlib.Omega.{arith}
-use mathlib.Core.Path.{_≡_, refl, ap, _∙_}
-use Prim.Native.Nat.{_<_, _/_, _%_}
-use lib.ListN.{length, getD}
 use borrow.Author.Needs.{needs}
 use Rattle.area.proofs.Relinks.{tail-below, tail-again, joins-stands, joins-ring, joins-falls, joined-relinks}
 use Rattle.ring.proofs.Rings.{ring-tail-small}

@@ -1,5 +1,5 @@
 -- `area::take_out` meets its contract: the records are lent to the rings, and what comes back changes one ring. Assumes nothing.
-use mathlib.Core.Path.{_≡_, refl, sym, _∙_}
+use mathlib.Core.Path.{refl, sym, _∙_}
 use borrow.Author.Needs.{needs}
 use Rattle.ring.proofs.Rings.{before-none, before-some, ring-tail-small}
 use Rattle.area.proofs.Relinks.{tail-below, tail-again, leaves-ring, left-relinks}

@@ -1,8 +1,5 @@
 -- An answer takes no more than its room, and the room of one answer stays. Assumes nothing.
 use mathlib.Core.Path.{sym}
-use native.Mathlib.Omega.{arith}
-use denote.Ref.{now}
-use lib.ListN.{length, take}
 use lib.Seq.{length-take-le}
 use borrow.Author.Needs.{needs}
 use Rattle.rehearse.proofs.line_done.Statement.{statement}

@@ -2,7 +2,7 @@
 use mathlib.Core.Path.{sym}
 use native.Mathlib.Omega.{arith}
 use denote.Ref.{now}
-use lib.ListN.{length, length-set, set, take}
+use lib.ListN.{length-set, set, take}
 use lib.Seq.{length-take-le}
 use Rattle.script.specs.Line.{meaning}
 use borrow.Author.Needs.{needs}

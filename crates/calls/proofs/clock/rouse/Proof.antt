@@ -1,7 +1,7 @@
 -- `calls::clock::rouse` meets its contract. The loop's invariant: no word has changed, and p stands in none of the conditions before c, which is
 -- one of them; it holds again where p does not stand in c either, and at the last p can stand nowhere else. The measure is the conditions
 -- ahead. Assumes nothing.
-use Prim.Native.Nat.{ℕ, _-_, _≤_}
+use Prim.Native.Nat.{_-_, _≤_}
 use native.Mathlib.Omega.{arith}
 use mathlib.Core.Path.{_≡_, refl, sym, _∙_}
 use mathlib.Core.Bool.{false}

@@ -1,7 +1,6 @@
 -- `calls::wakes::signal` meets its contract: the first of the condition wakes, if there is one, by the rule of Naked or of Notify. Assumes nothing.
 use mathlib.Core.Path.{refl, sym, _∙_}
 use mathlib.Core.Bool.{true≢false, false≢true}
-use native.Mathlib.Omega.{arith}
 use borrow.Author.Needs.{needs}
 use Rattle.model.specs.Queue.Queue.{condition}
 use Rattle.calls.proofs.Numbers.{first-there, first-inside}

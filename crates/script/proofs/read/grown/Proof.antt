@@ -1,9 +1,8 @@
 -- Below 65,536 the sum is itself, and above it is clipped. Assumes nothing.
 use Prim.Native.Nat.{_+_, _*_}
-use mathlib.Core.Path.{_≡_, refl, sym, ap, _∙_}
+use mathlib.Core.Path.{sym}
 use native.Mathlib.Omega.{arith}
-use denote.Ref.{now}
-use Rattle.script.proofs.Values.{clip-low, clip-high, clip-all}
+use Rattle.script.proofs.Values.{clip-low, clip-all}
 use borrow.Author.Needs.{needs}
 use Rattle.script.proofs.read.grown.Statement.{statement}
 use Rattle.script.proofs.read.grown.Tie as tie

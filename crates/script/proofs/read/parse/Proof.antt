@@ -1,10 +1,8 @@
 -- A long line means nothing; else its first word is the name, and what the numbers after it are leads on. Assumes nothing.
-use Prim.Native.Nat.{ℕ}
 use mathlib.Core.Path.{_≡_, sym, ap, _∙_, subst⁻¹}
-use mathlib.Core.List.{List}
 use native.Mathlib.Omega.{arith}
 use denote.Ref.{now}
-use lib.ListN.{length, take, drop}
+use lib.ListN.{take, drop}
 use lib.Seq.{length-take-le}
 use Rattle.script.specs.declared.read.Name.{Name}
 use Rattle.script.specs.Line.{Meaning, said, meaning}

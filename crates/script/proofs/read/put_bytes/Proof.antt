@@ -1,10 +1,10 @@
 -- The numbers before `at` are bytes and stand in the buffer; the measure is what is left of them. Assumes nothing.
 use borrow.Author.Needs.{needs}
-use Prim.Native.Nat.{_+_, _-_, _≤_}
-use mathlib.Core.Path.{_≡_, refl, sym, ap, _∙_}
+use Prim.Native.Nat.{_-_, _≤_}
+use mathlib.Core.Path.{_≡_, refl, _∙_}
 use native.Mathlib.Omega.{arith}
 use denote.Ref.{now}
-use lib.ListN.{length, take, drop, getD, length-set}
+use lib.ListN.{length, take, drop, length-set}
 use lib.Seq.{take-all}
 use Rattle.script.specs.Line.{within}
 use Rattle.script.proofs.Values.{within-stop, within-on, within-last, copied}

@@ -1,5 +1,4 @@
 -- The tests are those of the definition, in its order. Assumes nothing.
-use borrow.Author.Needs.{needs}
 use native.Mathlib.Omega.{arith}
 use borrow.Author.Tests.{lt-ltb, le-ltb}
 use Rattle.script.proofs.write.digit_count.Statement.{statement}

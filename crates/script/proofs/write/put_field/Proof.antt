@@ -2,7 +2,6 @@
 use borrow.Author.Needs.{needs}
 use native.Mathlib.Omega.{arith}
 use denote.Ref.{now}
-use lib.ListN.{length-set}
 use Rattle.script.proofs.Digits.{field-put}
 use Rattle.script.proofs.write.put_field.Statement.{statement}
 use Rattle.script.proofs.write.put_field.Tie as tie
