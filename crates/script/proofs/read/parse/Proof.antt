@@ -13,7 +13,7 @@ use Rattle.script.proofs.read.parse.Statement.{statement}
 use Rattle.script.proofs.read.parse.Tie as tie
 
 returns : tie.Need-returns
-returns c = meaning-long (now (c .before .before .before .before .args .line)) (c .if1 .taken)
+returns c = meaning-long (now (c .before .before .before .before .args .line)) (omega (arith, c .if1 .taken))
 
 word-end-requires : tie.Need-word-end-requires
 word-end-requires c κs = search needs

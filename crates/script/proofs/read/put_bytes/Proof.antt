@@ -31,7 +31,7 @@ same-length c = search needs
 
 returns : tie.Need-returns Inv-loop μ-loop
 returns c = let l = c .before .before .before .loop in
-    l .inv .1 .1 .1 ∙ within-stop 255 _ (l .at) (omega arith) (c .if1 .taken)
+    l .inv .1 .1 .1 ∙ within-stop 255 _ (l .at) (omega arith) (omega (arith, c .if1 .taken))
 
 cast-bytes : tie.Need-cast-bytes Inv-loop μ-loop
 cast-bytes c = search needs

@@ -35,7 +35,7 @@ returns-2 c = let l = c .before .before .before .loop in
 returns-3 : tie.Need-returns-3 Inv-loop μ-loop
 returns-3 c = let l = c .before .before .before .before .loop in
     let w = now (c .before .before .before .before .before .before .before .args .word) in
-    let e = value-stop w (l .at) (l .sum) (omega arith) (above-digit _ (c .before .if2 .left) (c .if3 .taken)) in
+    let e = value-stop w (l .at) (l .sum) (omega arith) (above-digit _ (c .before .if2 .left) (omega (arith, c .if3 .taken))) in
     sym (ap clipped (number-some w (c .before .before .before .before .before .if1 .left)) ∙ sym (l .inv .1 .1) ∙ ap clipped e)
 
 grown-requires : tie.Need-grown-requires Inv-loop μ-loop
