@@ -92,7 +92,7 @@ pub fn records_at(shape: Shape) -> usize
 }
 
 // Where the record of process p begins.
-pub fn record_at(shape: Shape, p: u16) -> usize
+fn record_at(shape: Shape, p: u16) -> usize
     requires { ⌜ inside (shape .processes) p ≡ true ⌝ }
     ensures { λ r. ⌜ r ≡ at shape (Link p) ⌝ }
 {
@@ -133,7 +133,7 @@ pub fn wakeup_of(area: &[u16], shape: Shape, c: u16) -> u16
     area[i] / 1 % 2
 }
 
-pub fn priority_of(area: &[u16], shape: Shape, p: u16) -> u16
+fn priority_of(area: &[u16], shape: Shape, p: u16) -> u16
     requires { ⌜ Held shape (now area) ⌝ }
     requires { ⌜ inside (shape .processes) p ≡ true ⌝ }
     ensures { λ r. ⌜ ((s : State model) → Holds shape (now (area .entry)) s → r ≡ s .fields (priority p)) ⌝ }
@@ -142,7 +142,7 @@ pub fn priority_of(area: &[u16], shape: Shape, p: u16) -> u16
     area[i] / 8192 % 8
 }
 
-pub fn failed_of(area: &[u16], shape: Shape, p: u16) -> u16
+fn failed_of(area: &[u16], shape: Shape, p: u16) -> u16
     requires { ⌜ Held shape (now area) ⌝ }
     requires { ⌜ inside (shape .processes) p ≡ true ⌝ }
     ensures { λ r. ⌜ ((s : State model) → Holds shape (now (area .entry)) s → r ≡ s .fields (failed p)) ⌝ }
@@ -237,7 +237,7 @@ pub fn set_clock(area: &mut [u16], value: u16)
     area[CLOCK] = value;
 }
 
-pub fn set_running(area: &mut [u16], shape: Shape, p: u16)
+fn set_running(area: &mut [u16], shape: Shape, p: u16)
     requires { ⌜ Held shape (now area) ⌝ }
     requires { ⌜ p ≤ shape .processes ⌝ }
     ensures { λ _. ⌜ ((s : State model) → Holds shape (now (area .entry)) s → Becomes shape (now (area .entry)) (now (area .exit)) (with running p s)) ⌝ }
@@ -292,7 +292,7 @@ pub fn set_failed(area: &mut [u16], shape: Shape, p: u16, value: u16)
 // ---- moves
 
 // p leaves the ring whose tail stands at i, if it stands there. Whether it does.
-pub fn take_out(area: &mut [u16], shape: Shape, i: usize, p: u16) -> bool
+fn take_out(area: &mut [u16], shape: Shape, i: usize, p: u16) -> bool
     requires { ⌜ Leaves shape (now area) i p ⌝ }
     ensures { λ r. ⌜ ((j : Leaves shape (now (area .entry)) i p) → Tried (j .stood) r (now (area .entry)) (now (area .exit)) (Relinked shape (now (area .entry)) (now (area .exit)) (j .parts) (j .queues) (j .queue) (remove p (j .queues (j .queue))))) ⌝ }
 {
@@ -309,7 +309,7 @@ pub fn take_out(area: &mut [u16], shape: Shape, i: usize, p: u16) -> bool
 }
 
 // p, which stands in no ring, joins the one whose tail stands at i.
-pub fn put_in(area: &mut [u16], shape: Shape, i: usize, p: u16)
+fn put_in(area: &mut [u16], shape: Shape, i: usize, p: u16)
     requires { ⌜ Joins shape (now area) i p ⌝ }
     ensures { λ _. ⌜ ((j : Joins shape (now (area .entry)) i p) → Relinked shape (now (area .entry)) (now (area .exit)) (j .parts) (j .queues) (j .queue) (insert (ranks (j .parts)) p (j .queues (j .queue)))) ⌝ }
 {
@@ -366,13 +366,13 @@ pub fn send(area: &mut [u16], shape: Shape, from: usize, to: usize, p: u16, wait
 // ---- dispatch
 
 // Who runs now, and whether its failed bit was set.
-pub struct Dispatched {
-    pub running: u16,
-    pub retry: u16,
+struct Dispatched {
+    running: u16,
+    retry: u16,
 }
 
 // The first of ready runs, and is no longer failed.
-pub fn dispatch(area: &mut [u16], shape: Shape) -> Dispatched
+fn dispatch(area: &mut [u16], shape: Shape) -> Dispatched
     requires { ⌜ Held shape (now area) ⌝ }
     ensures { λ r. ⌜ ((s : State model) → Holds shape (now (area .entry)) s → (r .running ≡ first (s .queues ready)) × (r .retry ≡ retry (s .queues ready) (s .fields)) × Becomes shape (now (area .entry)) (now (area .exit)) (dispatched s)) ⌝ }
 {
