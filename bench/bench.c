@@ -44,9 +44,19 @@ struct bench {
     bool waiting; /* all wait in conditions; otherwise all are ready */
     size_t words;
     uint16_t area[MAX_WORDS];
+    uint16_t asleep[MAX_WORDS]; /* an area in which one runs and all others wait on condition 1, due at the next tick */
     uint16_t buffer[MAX_PROCESSES];
     uint8_t priorities[MAX_PROCESSES];
 };
+
+/* Those who run, so many of them, wait one after the other, on this condition or, for 0, on each in turn. */
+static void put_to_sleep(struct bench *b, uint16_t *area, unsigned sleepers, unsigned condition, uint16_t ticks)
+{
+    for (unsigned sleeper = 0; sleeper < sleepers; sleeper++) {
+        plain_enter(area, b->words, 1);
+        plain_wait(area, b->words, 1, (uint16_t)(condition ? condition : 1 + sleeper % (CONDITIONS - 1)), ticks);
+    }
+}
 
 static void make(struct bench *b, uint16_t processes, bool waiting)
 {
@@ -56,10 +66,10 @@ static void make(struct bench *b, uint16_t processes, bool waiting)
     b->words = KERNEL_AREA_WORDS(processes, LOCKS, CONDITIONS, PARKS);
     memset(b->priorities, PRIORITY, processes);
     plain_start(b->area, b->words, processes, LOCKS, CONDITIONS, PARKS, b->priorities, processes);
-    for (uint16_t process = 0; waiting && process < processes; process++) {
-        plain_enter(b->area, b->words, 1);
-        plain_wait(b->area, b->words, 1, (uint16_t)(1 + process % (CONDITIONS - 1)), 0);
-    }
+    memcpy(b->asleep, b->area, sizeof b->area);
+    put_to_sleep(b, b->asleep, processes - 1u, 1, 1);
+    if (waiting)
+        put_to_sleep(b, b->area, processes, 0, 0);
 }
 
 /* The cases. Each leaves a state in which it can be repeated, and answers a sum of answers. */
@@ -103,6 +113,12 @@ static uint64_t do_broadcast(const struct calls *c, struct bench *b)
     return c->broadcast(b->area, b->words, EMPTY);
 }
 
+static uint64_t do_broadcast_all(const struct calls *c, struct bench *b)
+{
+    memcpy(b->area, b->asleep, b->words * sizeof *b->area);
+    return c->broadcast(b->area, b->words, 1);
+}
+
 static uint64_t do_naked(const struct calls *c, struct bench *b)
 {
     return c->naked(b->area, b->words, EMPTY);
@@ -120,6 +136,12 @@ static uint64_t do_set_priority(const struct calls *c, struct bench *b)
 
 static uint64_t do_tick(const struct calls *c, struct bench *b)
 {
+    return c->tick(b->area, b->words);
+}
+
+static uint64_t do_tick_due(const struct calls *c, struct bench *b)
+{
+    memcpy(b->area, b->asleep, b->words * sizeof *b->area);
     return c->tick(b->area, b->words);
 }
 
@@ -142,10 +164,12 @@ static const struct row {
     {"enter, wait, notify", do_enter_wait_notify, false},
     {"notify, empty", do_notify, false},
     {"broadcast, empty", do_broadcast, false},
+    {"broadcast, to all", do_broadcast_all, false},
     {"naked, empty", do_naked, true},
     {"requeue", do_requeue, false},
     {"set_priority", do_set_priority, false},
     {"tick", do_tick, true},
+    {"tick, all due", do_tick_due, false},
     {"list", do_list, true},
 };
 
