@@ -9,3 +9,6 @@ pub mod Relinks
 pub mod Fields
 pub mod Tries
 pub mod Moves
+pub mod Outcomes
+pub mod Numbers
+pub mod Shared

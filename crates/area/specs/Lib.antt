@@ -4,3 +4,4 @@ pub mod Reading
 pub mod Sound
 pub mod Holds
 pub mod Rings
+pub mod Calls

@@ -19,8 +19,8 @@ use Rattle.area.specs.Reading.{shapeOf, stateOf}
 use Rattle.area.specs.Sound.{Sound}
 use Rattle.area.proofs.Whole.{counts-in}
 use Rattle.start.specs.Start.{startOn, Starts}
-use Rattle.calls.specs.declared.listing.Listed.{Listed}
-use Rattle.calls.specs.Listing.{queueBy}
+use Rattle.queues.specs.declared.listing.Listed.{Listed}
+use Rattle.queues.specs.Listing.{queueBy}
 use Rattle.monitor.specs.Calls.{Performs, ListsOn}
 use Rattle.monitor.proofs.History.{start-accepted}
 use Rattle.monitor.specs.Wire.{packed, unpacked, Carries, packedList, CarriesList}

@@ -12,7 +12,7 @@ use Rattle.area.specs.State.{write}
 use Rattle.area.specs.Reading.{shapeOf, stateOf}
 use Rattle.area.specs.Sound.{Sound}
 use Rattle.start.specs.Start.{startOn}
-use Rattle.calls.specs.Listing.{queueBy, isQueue}
+use Rattle.queues.specs.Listing.{queueBy, isQueue}
 use Rattle.monitor.specs.Wire.{Carries, CarriesList}
 
 -- one of the nine: an unsound area is refused by 1 and left as it is; a sound one gives the rule's answer and words

@@ -18,9 +18,9 @@ use Rattle.area.specs.Sound.{Sound}
 use Rattle.area.specs.Holds.{Holds, Held, Becomes}
 use Rattle.area.proofs.Whole.{stored-write}
 use Rattle.area.proofs.States.{Words, sound-image}
-use Rattle.calls.specs.Parts.{Stands, Does}
-use Rattle.calls.specs.declared.listing.Listed.{Listed}
-use Rattle.calls.specs.Listing.{Lists}
+use Rattle.area.specs.Calls.{Stands, Does}
+use Rattle.queues.specs.declared.listing.Listed.{Listed}
+use Rattle.queues.specs.Listing.{Lists}
 use Rattle.monitor.specs.Calls.{Performs, ListsOn}
 
 -- an area that has become one of a state is every word of it

@@ -8,8 +8,8 @@ use Rattle.model.specs.Machine.{model, step, refusal}
 use Rattle.area.specs.State.{write}
 use Rattle.area.specs.Reading.{shapeOf, stateOf}
 use Rattle.area.specs.Sound.{Sound}
-use Rattle.calls.specs.declared.listing.Listed.{Listed}
-use Rattle.calls.specs.Listing.{Unlisted, Lists}
+use Rattle.queues.specs.declared.listing.Listed.{Listed}
+use Rattle.queues.specs.Listing.{Unlisted, Lists}
 
 -- an unsound area is refused by 1 and left as it is; a sound one gives the rule's answer and the words of the rule's state, with the words
 -- beyond as they were

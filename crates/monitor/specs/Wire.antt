@@ -2,7 +2,7 @@
 use Prim.Native.Nat.{ℕ, _+_, _*_, _/_, _%_, _^_}
 use mathlib.Core.Path.{_≡_}
 use Rattle.model.specs.declared.Answer.{Answer}
-use Rattle.calls.specs.declared.listing.Listed.{Listed}
+use Rattle.queues.specs.declared.listing.Listed.{Listed}
 
 -- the number that stands for an answer
 abbrev pub packed : Answer → ℕ

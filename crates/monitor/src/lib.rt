@@ -1,10 +1,10 @@
 // The kernel's calls on any words whatever: an unsound area is refused, and a sound one is served. Assumes nothing.
-use calls::listing::Listed;
 use model::Answer;
 use model::Call;
 use model::Priority;
 use model::Process;
 use model::Ticks;
+use queues::listing::Listed;
 ghost use mathlib.Core.Path.{_≡_};
 ghost use Rattle.model.specs.declared.Call.the-variants.{Enter, Exit, Wait, Notify, Broadcast, Naked, Requeue, SetPriority, Tick};
 ghost use Rattle.monitor.specs.Calls.{Performs, ListsOn};
@@ -22,7 +22,7 @@ pub fn enter(area: &mut [u16], lock: u16) -> Answer
         return area::answers::refusal(1);
     }
     let shape = area::shape_of(area);
-    calls::locks::enter(area, shape, lock)
+    locks::enter(area, shape, lock)
 }
 
 // Exit: leave the lock.
@@ -33,7 +33,7 @@ pub fn exit(area: &mut [u16], lock: u16) -> Answer
         return area::answers::refusal(1);
     }
     let shape = area::shape_of(area);
-    calls::locks::exit(area, shape, lock)
+    locks::exit(area, shape, lock)
 }
 
 // Wait: leave the lock and sleep on the condition, at most so many ticks; 0 is for ever.
@@ -44,7 +44,7 @@ pub fn wait(area: &mut [u16], lock: u16, condition: u16, ticks: Ticks) -> Answer
         return area::answers::refusal(1);
     }
     let shape = area::shape_of(area);
-    calls::waits::wait(area, shape, lock, condition, ticks)
+    locks::waits::wait(area, shape, lock, condition, ticks)
 }
 
 // Notify: wake the first of the condition.
@@ -55,7 +55,7 @@ pub fn notify(area: &mut [u16], condition: u16) -> Answer
         return area::answers::refusal(1);
     }
     let shape = area::shape_of(area);
-    calls::wakes::notify(area, shape, condition)
+    wakes::notify(area, shape, condition)
 }
 
 // Broadcast: wake all of the condition.
@@ -66,7 +66,7 @@ pub fn broadcast(area: &mut [u16], condition: u16) -> Answer
         return area::answers::refusal(1);
     }
     let shape = area::shape_of(area);
-    calls::wakes::broadcast(area, shape, condition)
+    wakes::broadcast(area, shape, condition)
 }
 
 // Naked: a device's notify; over nobody it sets the condition's wakeup.
@@ -77,7 +77,7 @@ pub fn naked(area: &mut [u16], condition: u16) -> Answer
         return area::answers::refusal(1);
     }
     let shape = area::shape_of(area);
-    calls::wakes::naked(area, shape, condition)
+    wakes::naked(area, shape, condition)
 }
 
 // Requeue: move a process between ready (0) and the parks.
@@ -88,7 +88,7 @@ pub fn requeue(area: &mut [u16], source: u16, destination: u16, process: Process
         return area::answers::refusal(1);
     }
     let shape = area::shape_of(area);
-    calls::parks::requeue(area, shape, source, destination, process)
+    queues::requeue(area, shape, source, destination, process)
 }
 
 // SetPriority: the running process takes this priority.
@@ -99,7 +99,7 @@ pub fn set_priority(area: &mut [u16], priority: Priority) -> Answer
         return area::answers::refusal(1);
     }
     let shape = area::shape_of(area);
-    calls::ranks::set_priority(area, shape, priority)
+    queues::ranks::set_priority(area, shape, priority)
 }
 
 // Tick: the clock goes on by one, and each process whose timer rings wakes.
@@ -110,7 +110,7 @@ pub fn tick(area: &mut [u16]) -> Answer
         return area::answers::refusal(1);
     }
     let shape = area::shape_of(area);
-    calls::clock::tick(area, shape)
+    wakes::clock::tick(area, shape)
 }
 
 // ---- any of them
@@ -150,7 +150,7 @@ pub fn list(area: &[u16], kind: u16, number: u16, buffer: &mut [u16]) -> Listed
         return Listed { code: 1, count: 0 };
     }
     let shape = area::shape_of(area);
-    calls::listing::list(area, shape, kind, number, buffer)
+    queues::listing::list(area, shape, kind, number, buffer)
 }
 
 // ---- answers as numbers

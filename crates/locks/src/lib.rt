@@ -1,0 +1,97 @@
+// Monitor locks, on an area that holds a valid state: Enter and Exit here, Wait in waits. Assumes nothing.
+use area::answers;
+use model::Answer;
+use model::Shape;
+ghost use mathlib.Core.Path.{_≡_};
+ghost use mathlib.Core.Bool.{true};
+ghost use mathlib.Core.List.{[], _∷_};
+ghost use lib.ListN.{length};
+ghost use Rattle.model.specs.declared.Call.the-variants.{Enter, Exit};
+ghost use Rattle.model.specs.Queue.{Queue, inside, member, firstOnly};
+ghost use Rattle.model.specs.Queue.Queue.{ready};
+ghost use Rattle.model.specs.Field.{put};
+ghost use Rattle.model.specs.Field.Field.{failed, holder};
+ghost use Rattle.model.specs.Rules.{released};
+ghost use Rattle.model.specs.Machine.{State, model};
+ghost use Rattle.model.specs.Valid.{Valid};
+ghost use Rattle.area.specs.Holds.{Holds, Held, Becomes};
+ghost use Rattle.area.specs.Calls.{Stands, Does, changed};
+
+pub mod waits;
+
+// Unlocks, and the first of the lock's queue, if it has one, moves to ready. The answer is how many moved.
+fn release(area: &mut [u16], shape: Shape, lock: u16) -> u16
+    requires { ⌜ Held shape (now area) ⌝ }
+    requires { ⌜ inside (shape .locks) lock ≡ true ⌝ }
+    ensures { λ r. ⌜ ((s : State model) → Holds shape (now (area .entry)) s → (r ≡ length (firstOnly (s .queues (Queue.lock lock)))) × Becomes shape (now (area .entry)) (now (area .exit)) (changed (put (holder lock) 0 (s .fields)) (released (s .queues) lock) s)) ⌝ }
+{
+    let from = area::lock_at(shape, lock);
+    let first = area::first_in(area, shape, from);
+    area::set_holder(area, shape, lock, 0);
+    if first == 0 {
+        return 0;
+    }
+    let to = area::ready_at();
+    area::send(area, shape, from, to, first, 0);
+    1
+}
+
+// The running process p becomes failed and moves to the lock.
+fn block(area: &mut [u16], shape: Shape, lock: u16, p: u16)
+    requires { ⌜ ((s : State model) × Holds shape (now area) s × (member p (s .queues ready) ≡ true)) ⌝ }
+    requires { ⌜ inside (shape .locks) lock ≡ true ⌝ }
+    ensures { λ _. ⌜ ((s : State model) → Holds shape (now (area .entry)) s → member p (s .queues ready) ≡ true → Becomes shape (now (area .entry)) (now (area .exit)) (changed (put (failed p) 1 (s .fields)) ((p, Queue.lock lock) ∷ []) s)) ⌝ }
+{
+    area::set_failed(area, shape, p, 1);
+    let from = area::ready_at();
+    let to = area::lock_at(shape, lock);
+    area::send(area, shape, from, to, p, 0);
+}
+
+pub fn enter(area: &mut [u16], shape: Shape, lock: u16) -> Answer
+    requires { ⌜ Stands shape (now area) ⌝ }
+    ensures { λ r. ⌜ ((s : State model) → Holds shape (now (area .entry)) s → Valid shape s → Does (Enter lock) shape (now (area .entry)) (now (area .exit)) s r) ⌝ }
+{
+    let running = area::running_of(area);
+    if running == 0 {
+        return answers::refusal(6);
+    }
+    if lock == 0 {
+        return answers::refusal(7);
+    }
+    if shape.locks < lock {
+        return answers::refusal(7);
+    }
+    let holder = area::holder_of(area, shape, lock);
+    if holder == running {
+        return answers::refusal(8);
+    }
+    if holder == 0 {
+        area::set_holder(area, shape, lock, running);
+        return answers::finish(area, shape, 1, 0);
+    }
+    block(area, shape, lock, running);
+    answers::finish(area, shape, 0, 0)
+}
+
+pub fn exit(area: &mut [u16], shape: Shape, lock: u16) -> Answer
+    requires { ⌜ Stands shape (now area) ⌝ }
+    ensures { λ r. ⌜ ((s : State model) → Holds shape (now (area .entry)) s → Valid shape s → Does (Exit lock) shape (now (area .entry)) (now (area .exit)) s r) ⌝ }
+{
+    let running = area::running_of(area);
+    if running == 0 {
+        return answers::refusal(6);
+    }
+    if lock == 0 {
+        return answers::refusal(7);
+    }
+    if shape.locks < lock {
+        return answers::refusal(7);
+    }
+    let holder = area::holder_of(area, shape, lock);
+    if holder != running {
+        return answers::refusal(9);
+    }
+    let moved = release(area, shape, lock);
+    answers::finish(area, shape, 0, moved)
+}

@@ -1,0 +1,82 @@
+// Waiting on a condition: Wait. Assumes nothing.
+use crate::release;
+use area::answers;
+use model::Answer;
+use model::Shape;
+use model::Ticks;
+ghost use mathlib.Core.Path.{_≡_};
+ghost use mathlib.Core.Bool.{true};
+ghost use mathlib.Core.List.{[], _∷_};
+ghost use Rattle.model.specs.declared.Call.the-variants.{Wait};
+ghost use Rattle.model.specs.Queue.{Queue, inside, member};
+ghost use Rattle.model.specs.Queue.Queue.{ready};
+ghost use Rattle.model.specs.Field.{put};
+ghost use Rattle.model.specs.Field.Field.{clock, timer};
+ghost use Rattle.model.specs.Rules.{alarm};
+ghost use Rattle.model.specs.Machine.{State, model};
+ghost use Rattle.model.specs.Valid.{Valid};
+ghost use Rattle.area.specs.Holds.{Holds, Becomes};
+ghost use Rattle.area.specs.Calls.{Stands, Does, changed};
+
+// The timer of a wait of t ticks: 0 for none; 0 stands for no timer, so 1 takes its place.
+fn alarm_at(now: u16, t: u16) -> u16
+    ensures { λ r. ⌜ r ≡ alarm now t ⌝ }
+{
+    if t == 0 {
+        return 0;
+    }
+    let due = std::num::wrapping_add_u16(now, t);
+    if due == 0 {
+        return 1;
+    }
+    due
+}
+
+// The running process p sets its timer and moves to the condition.
+fn sleep(area: &mut [u16], shape: Shape, condition: u16, p: u16, ticks: Ticks)
+    requires { ⌜ ((s : State model) × Holds shape (now area) s × (member p (s .queues ready) ≡ true)) ⌝ }
+    requires { ⌜ inside (shape .conditions) condition ≡ true ⌝ }
+    ensures { λ _. ⌜ ((s : State model) → Holds shape (now (area .entry)) s → member p (s .queues ready) ≡ true → Becomes shape (now (area .entry)) (now (area .exit)) (changed (put (timer p) (alarm (s .fields clock) (ticks .0)) (s .fields)) ((p, Queue.condition condition) ∷ []) s)) ⌝ }
+{
+    let now = area::clock_of(area);
+    let t = ticks.0;
+    let due = alarm_at(now, t);
+    area::set_timer(area, shape, p, due);
+    let from = area::ready_at();
+    let to = area::condition_at(shape, condition);
+    area::send(area, shape, from, to, p, 1);
+}
+
+pub fn wait(area: &mut [u16], shape: Shape, lock: u16, condition: u16, ticks: Ticks) -> Answer
+    requires { ⌜ Stands shape (now area) ⌝ }
+    ensures { λ r. ⌜ ((s : State model) → Holds shape (now (area .entry)) s → Valid shape s → Does (Wait lock condition ticks) shape (now (area .entry)) (now (area .exit)) s r) ⌝ }
+{
+    let running = area::running_of(area);
+    if running == 0 {
+        return answers::refusal(6);
+    }
+    if lock == 0 {
+        return answers::refusal(7);
+    }
+    if shape.locks < lock {
+        return answers::refusal(7);
+    }
+    if condition == 0 {
+        return answers::refusal(7);
+    }
+    if shape.conditions < condition {
+        return answers::refusal(7);
+    }
+    let holder = area::holder_of(area, shape, lock);
+    if holder != running {
+        return answers::refusal(9);
+    }
+    let moved = release(area, shape, lock);
+    let wakeup = area::wakeup_of(area, shape, condition);
+    if wakeup != 0 {
+        area::set_wakeup(area, shape, condition, 0);
+        return answers::finish(area, shape, 0, moved);
+    }
+    sleep(area, shape, condition, running, ticks);
+    answers::finish(area, shape, 1, moved)
+}
