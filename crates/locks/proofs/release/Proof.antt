@@ -1,7 +1,9 @@
 -- `locks::release` meets its contract: the first of the lock's queue, if it has one, goes to ready. Assumes nothing.
+use native.Mathlib.Omega.{arith}
 use mathlib.Core.Path.{refl}
 use Rattle.model.specs.Queue.Queue.{ready, lock}
 use Rattle.area.proofs.Puts.{becomes-then}
+use Rattle.area.proofs.Fields.{first-small}
 use Rattle.area.proofs.Shared.{going}
 use Rattle.area.proofs.Numbers.{first-stands}
 use Rattle.locks.proofs.Locking.{release-none, release-first}
@@ -16,7 +18,10 @@ first-in-requires : tie.Need-first-in-requires
 first-in-requires c κs = search needs
 
 set-holder-requires : tie.Need-set-holder-requires
-set-holder-requires c κs = search needs
+set-holder-requires c κs =
+    let H = c .before .before .before .before .before .pre .0 .1 in
+    let f = c .before .first-in .ensures _ (lock (c .before .before .before .before .before .args .lock)) H (c .before .before .before .before .before .pre .1) (c .before .before .before .lock-at .ensures) in
+    (c .before .before .before .before .before .pre .0, (c .before .before .before .before .before .pre .1, omega (arith, first-small H (lock (c .before .before .before .before .before .args .lock)) f)))
 
 same-length : tie.Need-same-length
 same-length c = search needs
