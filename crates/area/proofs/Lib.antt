@@ -5,10 +5,4 @@ pub mod Rings
 pub mod States
 pub mod Puts
 pub mod Records
-pub mod Relinks
 pub mod Fields
-pub mod Tries
-pub mod Moves
-pub mod Outcomes
-pub mod Numbers
-pub mod Shared

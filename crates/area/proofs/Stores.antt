@@ -1,6 +1,6 @@
 -- The store law: the word that a part's home takes when the part changes makes an area of the changed parts, and no other. A word goes by
 -- the parts that it is home to and by nothing else, and no other slot has its address. Assumes nothing.
-use Prim.Native.Nat.{ℕ, _+_, _-_, _*_, _/_, _%_, _<_}
+use Prim.Native.Nat.{ℕ, _+_, _*_, _/_, _%_, _<_}
 use native.Mathlib.Decide.{ℕ-discrete}
 use native.Mathlib.Omega.{arith}
 use mathlib.Core.Path.{_≡_, refl, sym, ap, _∙_}
@@ -13,12 +13,15 @@ use Rattle.model.specs.Queue.{Queue-discrete}
 use Rattle.model.specs.Queue.Queue.{ready, park, lock, condition}
 use Rattle.model.specs.Field.{Field-discrete}
 use Rattle.model.specs.Field.Field.{clock, running, priority, timer, failed, holder, wakeup}
+use Rattle.model.specs.Rules.{counted}
 use Rattle.model.proofs.Tests.{decided-case, passes, stops}
-use Rattle.area.specs.Layout.{Part, Parts, Part-discrete, alter, Slot, word, span, unit, home, size, at, has, Image, Stored}
+use Rattle.area.specs.declared.places.Place.{Place}
+use Rattle.area.specs.Layout.{Part, Parts, Part-discrete, alter, Slot, word, span, unit, home, size, at, has, Lies, Image, Stored}
 use Rattle.area.specs.Layout.Part.{kept, tail, next, locked, waiting}
 use Rattle.area.specs.Layout.Slot.{Processes, LocksConditions, Parks, Clock, Running, Tail, Holder, Link, Flags, Timer}
 use Rattle.area.specs.Reading.{partsOf}
 use Rattle.area.proofs.Addresses.{at-one, at-below}
+use Rattle.area.proofs.Whole.{counts-in}
 
 -- ---- one part changed
 
@@ -113,6 +116,14 @@ module _ (n : Shape) (ws : List ℕ) (t : Parts) (im : Image n ws t) where
 
 -- ---- a store
 
+-- a value that fits leaves every part in its span
+spans-alter : (n : Shape) (ws : List ℕ) (t : Parts) → Image n ws t → (f : Part) (x : ℕ) → x < span f → (g : Part) → has n (home g) ≡ true → alter f x t g < span g
+spans-alter n ws t im f x fits g vg = go (part≟ f g)
+  where
+    go : Dec (f ≡ g) → alter f x t g < span g
+    go (yes q) = rw (← q, alter-here f x t) fits
+    go (no q) = rw (alter-away f g x t q) (im .spans g vg)
+
 module _ (n : Shape) (ws : List ℕ) (t : Parts) (im : Image n ws t) (f : Part) (x i : ℕ) (ok : has n (home f) ≡ true) (fits : x < span f) (here : i ≡ at n (home f)) where
   -- of the word that the changed parts ask for
   store-word : (v : ℕ) → v ≡ word n (alter f x t) (home f) → Stored n ws (lib.ListN.set ws i v) (alter f x t)
@@ -121,7 +132,7 @@ module _ (n : Shape) (ws : List ℕ) (t : Parts) (im : Image n ws t) (f : Part) 
       counts = im .counts;
       long = simp length-set (im .long);
       words = λ a va. word-at a va (ℕ-discrete (at n a) (at n (home f)));
-      spans = λ g vg. span-at g vg (part≟ f g);
+      spans = spans-alter n ws t im f x fits;
     };
     beyond = drop-set-lt (size n) ws (at n (home f)) v (at-below n (home f) ok);
   }
@@ -132,10 +143,6 @@ module _ (n : Shape) (ws : List ℕ) (t : Parts) (im : Image n ws t) (f : Part) 
       word-at a va (no q) =
           getD-set-other ws (at n (home f)) (at n a) v 0 q
           ∙ (im .words a va ∙ sym (word-other n f x t a (λ r. q (ap (at n) (sym r)))))
-
-      span-at : (g : Part) → has n (home g) ≡ true → Dec (f ≡ g) → alter f x t g < span g
-      span-at g vg (yes q) = rw (← q, alter-here f x t) fits
-      span-at g vg (no q) = rw (alter-away f g x t q) (im .spans g vg)
 
   -- THE STORE LAW: by the old word w and the new word v alone; u and k are the part's unit and span
   pub store : (u k v w : ℕ) → unit f ≡ u → span f ≡ k → w ≡ getD ws i 0 → v + w / u % k * u ≡ w + x * u → Stored n ws (lib.ListN.set ws i v) (alter f x t)
@@ -150,6 +157,64 @@ module _ (n : Shape) (ws : List ℕ) (t : Parts) (im : Image n ws t) (f : Part) 
 -- what a load has of the word: the part
 pub load-at : (n : Shape) (ws : List ℕ) (t : Parts) → Image n ws t → (f : Part) (i : ℕ) → has n (home f) ≡ true → i ≡ at n (home f) → (u k : ℕ) → unit f ≡ u → span f ≡ k → getD ws i 0 / u % k ≡ t f
 load-at n ws t im f i ok here u k eu ek = rw (here, ← eu, ← ek) (load n ws t im f ok)
+
+-- every word of an area fits into sixteen bits
+pub word-small : (n : Shape) (t : Parts) → counted n ≡ true → ((f : Part) → has n (home f) ≡ true → t f < span f) → (a : Slot) → has n a ≡ true → word n t a < 65536
+word-small n t k sp Processes v = omega (arith, counts-in n k .processes)
+word-small n t k sp LocksConditions v = omega (arith, counts-in n k .locks, counts-in n k .conditions)
+word-small n t k sp Parks v = omega (arith, counts-in n k .parks)
+word-small n t k sp Clock v = sp (kept clock) v
+word-small n t k sp Running v = omega (arith, sp (kept running) v)
+word-small n t k sp (Tail ready) v = omega (arith, sp (tail ready) v)
+word-small n t k sp (Tail (park x)) v = omega (arith, sp (tail (park x)) v)
+word-small n t k sp (Tail (lock l)) v = omega (arith, sp (tail (lock l)) v, sp (locked l) v)
+word-small n t k sp (Tail (condition c)) v = omega (arith, sp (tail (condition c)) v, sp (kept (wakeup c)) v)
+word-small n t k sp (Holder l) v = omega (arith, sp (kept (holder l)) v)
+word-small n t k sp (Link p) v = omega (arith, sp (kept (priority p)) v, sp (next p) v, sp (kept (failed p)) v)
+word-small n t k sp (Flags p) v = omega (arith, sp (waiting p) v)
+word-small n t k sp (Timer p) v = sp (kept (timer p)) v
+
+unit-some : (f : Part) → 0 < unit f
+unit-some (kept clock) = omega arith
+unit-some (kept running) = omega arith
+unit-some (kept (priority p)) = omega arith
+unit-some (kept (timer p)) = omega arith
+unit-some (kept (failed p)) = omega arith
+unit-some (kept (holder l)) = omega arith
+unit-some (kept (wakeup c)) = omega arith
+unit-some (tail q) = omega arith
+unit-some (next p) = omega arith
+unit-some (locked l) = omega arith
+unit-some (waiting p) = omega arith
+
+-- ---- a part at its place
+
+module _ {n : Shape} {ws : List ℕ} {t : Parts} (im : Image n ws t) (f : Part) {p : Place} (L : Lies n f p) where
+  -- its word is there
+  pub place-below : p .at < length ws
+  place-below = rw (L .1) (within n ws t im (home f) (L .0))
+
+  pub place-unit : 0 < p .unit
+  place-unit = rw (L .2) (unit-some f)
+
+  pub place-span : 0 < p .span
+  place-span = omega (arith, im .spans f (L .0), L .3)
+
+  -- a read of it
+  pub place-load : getD ws (p .at) 0 / p .unit % p .span ≡ t f
+  place-load = load-at n ws t im f (p .at) (L .0) (L .1) (p .unit) (p .span) (sym (L .2)) (sym (L .3))
+
+  module _ {x : ℕ} (fits : x < span f) where
+    -- its word has room for another value
+    pub place-room : getD ws (p .at) 0 + x * p .unit < 65536 + getD ws (p .at) 0 / p .unit % p .span * p .unit
+    place-room =
+        let a : word n (alter f x t) (home f) < 65536 = word-small n (alter f x t) (im .counts) (spans-alter n ws t im f x fits) (home f) (L .0) in
+        let w : getD ws (p .at) 0 ≡ word n t (home f) = rw (L .1) (im .words (home f) (L .0)) in
+        rw (place-load, w, L .2) (omega (arith, word-alter n t x f))
+
+    -- a write of it, by the old word and the new one
+    pub place-store : (v : ℕ) → v + getD ws (p .at) 0 / p .unit % p .span * p .unit ≡ getD ws (p .at) 0 + x * p .unit → Stored n ws (lib.ListN.set ws (p .at) v) (alter f x t)
+    place-store v e = store n ws t im f x (p .at) (L .0) fits (L .1) (p .unit) (p .span) v (getD ws (p .at) 0) (sym (L .2)) (sym (L .3)) refl e
 
 pub stored-none : (n : Shape) (ws : List ℕ) (t : Parts) → Image n ws t → Stored n ws ws t
 stored-none n ws t im = record { image = im; beyond = refl }

@@ -1,5 +1,5 @@
 -- What the functions of this crate promise: an area that holds a state becomes one that holds another. Assumes nothing.
-use Prim.Native.Nat.{ℕ}
+use Prim.Native.Nat.{ℕ, _<_}
 use mathlib.Core.Path.{_≡_}
 use mathlib.Core.Bool.{Bool, true, false}
 use mathlib.Core.List.{List}
@@ -9,10 +9,13 @@ use Rattle.model.specs.declared.Answer.{Answer}
 use Rattle.model.specs.Queue.{Queue, bit, inside, exists, member, move}
 use Rattle.model.specs.Queue.Queue.{ready}
 use Rattle.model.specs.Field.{Field, put, priorities}
+use Rattle.model.specs.Field.Field.{clock, running, priority, timer, failed, holder, wakeup}
 use Rattle.model.specs.Machine.{State, model, dispatch}
-use Rattle.model.specs.Valid.{Placed}
+use Rattle.model.specs.Valid.{room, Placed}
 use Rattle.model.specs.History.{isCondition}
-use Rattle.area.specs.Layout.{at, size, Image}
+use Rattle.area.specs.declared.places.Place.{Place}
+use Rattle.area.specs.Layout.{at, size, Lies, Image}
+use Rattle.area.specs.Layout.Part.{kept}
 use Rattle.area.specs.Layout.Slot.{Tail}
 use Rattle.area.specs.State.{laid}
 
@@ -44,6 +47,22 @@ pub record Tried (b r : Bool) (old new : List ℕ) (A : Type 0) : Type 0 where
 -- the state with one field changed
 abbrev pub with : Field → ℕ → State model → State model
 with f v s = record { fields = put f v (s .fields); queues = s .queues }
+
+-- a field by which nothing else goes: a priority has the queues' order go by it, and a holder its lock's locked bit
+abbrev pub plain : Field → Bool
+plain clock = true
+plain running = true
+plain (priority p) = false
+plain (timer p) = true
+plain (failed p) = true
+plain (holder l) = false
+plain (wakeup c) = true
+
+-- a plain field lies at this place, and the value is in its range
+pub record Takes (n : Shape) (f : Field) (p : Place) (v : ℕ) : Type 0 where
+  pub lies : Lies n (kept f) p
+  pub free : plain f ≡ true
+  pub fits : v < room n f
 
 -- the state with p moved to q, by the priorities that its fields now have
 abbrev pub sent : ℕ → Queue → State model → State model

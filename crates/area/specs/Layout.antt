@@ -12,6 +12,7 @@ use Rattle.model.specs.Queue.Queue.{ready, park, lock, condition}
 use Rattle.model.specs.Field.{Field, Field-discrete}
 use Rattle.model.specs.Field.Field.{clock, running, priority, timer, failed, holder, wakeup}
 use Rattle.model.specs.Rules.{counted}
+use Rattle.area.specs.declared.places.Place.{Place}
 
 -- ---- what the words are made of
 
@@ -156,6 +157,10 @@ unit (tail q) = 8
 unit (next p) = 8
 unit (locked l) = 1
 unit (waiting p) = 2
+
+-- a part that the counts give lies at this place: in this word, with this unit and this span
+abbrev pub Lies : Shape → Part → Place → Type 0
+Lies n f p = (has n (home f) ≡ true) × (p .at ≡ at n (home f)) × (p .unit ≡ unit f) × (p .span ≡ span f)
 
 -- ---- an area
 

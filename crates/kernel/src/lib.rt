@@ -1,4 +1,5 @@
 // The C boundary: each call on an area of any words and any numbers, its answer packed in one number. Thin over monitor. Assumes nothing.
+use model::Call;
 use model::Priority;
 use model::Process;
 use model::Shape;
@@ -40,46 +41,75 @@ pub extern "C" fn kernel_sound(area: &[u16]) -> u64
 
 // ---- the nine calls
 
+// A call, its answer as one number.
+fn cross(area: &mut [u16], call: Call) -> u64
+    ensures { λ r. ⌜ Crosses call (now (area .entry)) (now (area .exit)) r ⌝ }
+{
+    monitor::pack(monitor::perform(area, call))
+}
+
 #[no_mangle]
 pub extern "C" fn kernel_enter(area: &mut [u16], lock: u16) -> u64
     ensures { λ r. ⌜ Crosses (Enter lock) (now (area .entry)) (now (area .exit)) r ⌝ }
 {
-    monitor::pack(monitor::enter(area, lock))
+    cross(area, Call::Enter { lock: lock })
 }
 
 #[no_mangle]
 pub extern "C" fn kernel_exit(area: &mut [u16], lock: u16) -> u64
     ensures { λ r. ⌜ Crosses (Exit lock) (now (area .entry)) (now (area .exit)) r ⌝ }
 {
-    monitor::pack(monitor::exit(area, lock))
+    cross(area, Call::Exit { lock: lock })
 }
 
 #[no_mangle]
 pub extern "C" fn kernel_wait(area: &mut [u16], lock: u16, condition: u16, ticks: u16) -> u64
     ensures { λ r. ⌜ Crosses (Wait lock condition (record { 0 = ticks })) (now (area .entry)) (now (area .exit)) r ⌝ }
 {
-    monitor::pack(monitor::wait(area, lock, condition, Ticks(ticks)))
+    cross(
+        area,
+        Call::Wait {
+            lock: lock,
+            condition: condition,
+            ticks: Ticks(ticks),
+        },
+    )
 }
 
 #[no_mangle]
 pub extern "C" fn kernel_notify(area: &mut [u16], condition: u16) -> u64
     ensures { λ r. ⌜ Crosses (Notify condition) (now (area .entry)) (now (area .exit)) r ⌝ }
 {
-    monitor::pack(monitor::notify(area, condition))
+    cross(
+        area,
+        Call::Notify {
+            condition: condition,
+        },
+    )
 }
 
 #[no_mangle]
 pub extern "C" fn kernel_broadcast(area: &mut [u16], condition: u16) -> u64
     ensures { λ r. ⌜ Crosses (Broadcast condition) (now (area .entry)) (now (area .exit)) r ⌝ }
 {
-    monitor::pack(monitor::broadcast(area, condition))
+    cross(
+        area,
+        Call::Broadcast {
+            condition: condition,
+        },
+    )
 }
 
 #[no_mangle]
 pub extern "C" fn kernel_naked(area: &mut [u16], condition: u16) -> u64
     ensures { λ r. ⌜ Crosses (Naked condition) (now (area .entry)) (now (area .exit)) r ⌝ }
 {
-    monitor::pack(monitor::naked(area, condition))
+    cross(
+        area,
+        Call::Naked {
+            condition: condition,
+        },
+    )
 }
 
 #[no_mangle]
@@ -91,21 +121,33 @@ pub extern "C" fn kernel_requeue(
 ) -> u64
     ensures { λ r. ⌜ Crosses (Requeue source destination (record { 0 = process })) (now (area .entry)) (now (area .exit)) r ⌝ }
 {
-    monitor::pack(monitor::requeue(area, source, destination, Process(process)))
+    cross(
+        area,
+        Call::Requeue {
+            source: source,
+            destination: destination,
+            process: Process(process),
+        },
+    )
 }
 
 #[no_mangle]
 pub extern "C" fn kernel_set_priority(area: &mut [u16], priority: u16) -> u64
     ensures { λ r. ⌜ Crosses (SetPriority (record { 0 = priority })) (now (area .entry)) (now (area .exit)) r ⌝ }
 {
-    monitor::pack(monitor::set_priority(area, Priority(priority)))
+    cross(
+        area,
+        Call::SetPriority {
+            priority: Priority(priority),
+        },
+    )
 }
 
 #[no_mangle]
 pub extern "C" fn kernel_tick(area: &mut [u16]) -> u64
     ensures { λ r. ⌜ Crosses Tick (now (area .entry)) (now (area .exit)) r ⌝ }
 {
-    monitor::pack(monitor::tick(area))
+    cross(area, Call::Tick)
 }
 
 // ---- List

@@ -9,87 +9,75 @@ use lib.ListN.{length}
 use Rattle.model.specs.declared.Shape.{Shape}
 use Rattle.model.specs.declared.Answer.{Answer}
 use Rattle.model.specs.declared.Call.the-variants.{Enter, Exit}
-use Rattle.model.specs.Queue.{outside, inside, first, firstOnly}
+use Rattle.model.specs.Queue.{outside, first, firstOnly}
 use Rattle.model.specs.Queue.Queue.{ready, lock}
 use Rattle.model.specs.Field.{put}
 use Rattle.model.specs.Field.Field.{running, failed, holder}
-use Rattle.model.specs.Rules.{decide, released}
+use Rattle.model.specs.Rules.{unless, decide, released}
 use Rattle.model.specs.Rules.Effect.{accept}
 use Rattle.model.specs.Machine.{State, model, finish, refusal}
-use Rattle.model.proofs.Tests.{eqb-yes, eqb-no, not-true}
+use Rattle.model.proofs.Tests.{eqb-yes, eqb-no}
 use Rattle.model.proofs.Loops.{released-moved}
 use Rattle.area.specs.Holds.{Holds, Becomes, with, sent, Gives}
-use Rattle.area.specs.Calls.{Does, changed}
-use Rattle.area.proofs.Outcomes.{unless-yes, unless-no, choose-yes, choose-no, refuses, accepts}
-use Rattle.area.proofs.Numbers.{first-only, nobody-first}
+use Rattle.area.specs.Calls.{Does, Calling, changed}
+use Rattle.moves.proofs.Outcomes.{unless-yes, unless-no, choose-yes, choose-no, Tested, calling-tested, refuses, refuses-by, accepts}
+use Rattle.moves.proofs.Numbers.{first-only, nobody-first}
 
--- ---- the rules, with r the running process and h the lock's holder
+-- ---- the rules, with r the running process, k the code of the tests that every call of a lock shares, and h the lock's holder
 
-module _ {n : Shape} {old : List ℕ} {s : State model} (H : Holds n old s) (l : ℕ) {r : ℕ} (er : r ≡ s .fields running) where
-  pub enter-nobody : {a : Answer} → r ≡ 0 → a ≡ refusal 6 → Does (Enter l) n old old s a
+module _ {n : Shape} {old : List ℕ} {s : State model} (H : Holds n old s) (l : ℕ) {r k : ℕ} (er : r ≡ s .fields running) (ek : Calling r (n .locks) l k) where
+  tested : Tested k (λ e. unless (eqb (s .fields running) 0) 6 (unless (outside (n .locks) l) 7 e))
+  tested = rw (← er) (calling-tested ek)
+
+  pub enter-refused : {a : Answer} → k ≢ 0 → a ≡ refusal k → Does (Enter l) n old old s a
   unfolding decide
-  enter-nobody z = refuses H (Enter l) 6 (unless-yes 6 _ (eqb-yes (s .fields running) 0 (sym er ∙ z)))
+  enter-refused = refuses-by H (Enter l) _ refl tested
 
-  pub exit-nobody : {a : Answer} → r ≡ 0 → a ≡ refusal 6 → Does (Exit l) n old old s a
+  pub exit-refused : {a : Answer} → k ≢ 0 → a ≡ refusal k → Does (Exit l) n old old s a
   unfolding decide
-  exit-nobody z = refuses H (Exit l) 6 (unless-yes 6 _ (eqb-yes (s .fields running) 0 (sym er ∙ z)))
+  exit-refused = refuses-by H (Exit l) _ refl tested
 
-  module _ (z : r ≢ 0) where
-    someone : eqb (s .fields running) 0 ≡ false
-    someone = eqb-no (s .fields running) 0 (λ e. z (er ∙ e))
+  module _ (z : k ≡ 0) {h : ℕ} (eh : h ≡ s .fields (holder l)) where
+    own : h ≡ r → eqb (s .fields (holder l)) (s .fields running) ≡ true
+    own e = eqb-yes (s .fields (holder l)) (s .fields running) (sym eh ∙ e ∙ er)
 
-    pub enter-no-lock : {a : Answer} → outside (n .locks) l ≡ true → a ≡ refusal 7 → Does (Enter l) n old old s a
+    foreign : h ≢ r → eqb (s .fields (holder l)) (s .fields running) ≡ false
+    foreign d = eqb-no (s .fields (holder l)) (s .fields running) (λ e. d (eh ∙ e ∙ sym er))
+
+    pub enter-own : {a : Answer} → h ≡ r → a ≡ refusal 8 → Does (Enter l) n old old s a
     unfolding decide
-    enter-no-lock o = refuses H (Enter l) 7 (unless-no 6 _ someone ∙ unless-yes 7 _ o)
+    enter-own e = refuses H (Enter l) 8 (tested .passed z _ ∙ unless-yes 8 _ (own e))
 
-    pub exit-no-lock : {a : Answer} → outside (n .locks) l ≡ true → a ≡ refusal 7 → Does (Exit l) n old old s a
+    pub enter-free : {mid new : List ℕ} {a : Answer} → h ≢ r → h ≡ 0 → Becomes n old mid (with (holder l) r s)
+        → Gives n mid new a (finish model (put (holder l) r (s .fields)) (s .queues) 1 0) → Does (Enter l) n old new s a
     unfolding decide
-    exit-no-lock o = refuses H (Exit l) 7 (unless-no 6 _ someone ∙ unless-yes 7 _ o)
+    enter-free d e =
+        accepts H (Enter l) (put (holder l) r (s .fields)) [] 1 0
+        (tested .passed z _ ∙ unless-no 8 _ (foreign d) ∙ choose-yes _ _ (eqb-yes (s .fields (holder l)) 0 (sym eh ∙ e))
+        ∙ ap {A = ℕ} (λ x. accept (put (holder l) x (s .fields)) [] 1) (sym er))
+        refl
 
-    module _ (i : inside (n .locks) l ≡ true) {h : ℕ} (eh : h ≡ s .fields (holder l)) where
-      there : outside (n .locks) l ≡ false
-      there = not-true (outside (n .locks) l) i
+    pub enter-taken : {mid new : List ℕ} {a : Answer} → h ≢ r → h ≢ 0 → (b : Becomes n old mid (changed (put (failed r) 1 (s .fields)) ((r, lock l) ∷ []) s))
+        → Gives n mid new a (finish model (put (failed r) 1 (s .fields)) (changed (put (failed r) 1 (s .fields)) ((r, lock l) ∷ []) s .queues) 0 0) → Does (Enter l) n old new s a
+    unfolding decide
+    enter-taken d e =
+        accepts H (Enter l) (put (failed r) 1 (s .fields)) ((r, lock l) ∷ []) 0 0
+        (tested .passed z _ ∙ unless-no 8 _ (foreign d) ∙ choose-no _ _ (eqb-no (s .fields (holder l)) 0 (λ k. e (eh ∙ k)))
+        ∙ ap {A = ℕ} (λ x. accept (put (failed x) 1 (s .fields)) ((x, lock l) ∷ []) 0) (sym er))
+        refl
 
-      own : h ≡ r → eqb (s .fields (holder l)) (s .fields running) ≡ true
-      own e = eqb-yes (s .fields (holder l)) (s .fields running) (sym eh ∙ e ∙ er)
+    pub exit-foreign : {a : Answer} → h ≢ r → a ≡ refusal 9 → Does (Exit l) n old old s a
+    unfolding decide
+    exit-foreign d = refuses H (Exit l) 9 (tested .passed z _ ∙ unless-yes 9 _ (ap not (foreign d)))
 
-      foreign : h ≢ r → eqb (s .fields (holder l)) (s .fields running) ≡ false
-      foreign d = eqb-no (s .fields (holder l)) (s .fields running) (λ e. d (eh ∙ e ∙ sym er))
-
-      pub enter-own : {a : Answer} → h ≡ r → a ≡ refusal 8 → Does (Enter l) n old old s a
-      unfolding decide
-      enter-own e = refuses H (Enter l) 8 (unless-no 6 _ someone ∙ unless-no 7 _ there ∙ unless-yes 8 _ (own e))
-
-      pub enter-free : {mid new : List ℕ} {a : Answer} → h ≢ r → h ≡ 0 → Becomes n old mid (with (holder l) r s)
-          → Gives n mid new a (finish model (put (holder l) r (s .fields)) (s .queues) 1 0) → Does (Enter l) n old new s a
-      unfolding decide
-      enter-free d e =
-          accepts H (Enter l) (put (holder l) r (s .fields)) [] 1 0
-          (unless-no 6 _ someone ∙ unless-no 7 _ there ∙ unless-no 8 _ (foreign d) ∙ choose-yes _ _ (eqb-yes (s .fields (holder l)) 0 (sym eh ∙ e))
-          ∙ ap {A = ℕ} (λ x. accept (put (holder l) x (s .fields)) [] 1) (sym er))
-          refl
-
-      pub enter-taken : {mid new : List ℕ} {a : Answer} → h ≢ r → h ≢ 0 → (b : Becomes n old mid (changed (put (failed r) 1 (s .fields)) ((r, lock l) ∷ []) s))
-          → Gives n mid new a (finish model (put (failed r) 1 (s .fields)) (changed (put (failed r) 1 (s .fields)) ((r, lock l) ∷ []) s .queues) 0 0) → Does (Enter l) n old new s a
-      unfolding decide
-      enter-taken d e =
-          accepts H (Enter l) (put (failed r) 1 (s .fields)) ((r, lock l) ∷ []) 0 0
-          (unless-no 6 _ someone ∙ unless-no 7 _ there ∙ unless-no 8 _ (foreign d) ∙ choose-no _ _ (eqb-no (s .fields (holder l)) 0 (λ k. e (eh ∙ k)))
-          ∙ ap {A = ℕ} (λ x. accept (put (failed x) 1 (s .fields)) ((x, lock l) ∷ []) 0) (sym er))
-          refl
-
-      pub exit-foreign : {a : Answer} → h ≢ r → a ≡ refusal 9 → Does (Exit l) n old old s a
-      unfolding decide
-      exit-foreign d = refuses H (Exit l) 9 (unless-no 6 _ someone ∙ unless-no 7 _ there ∙ unless-yes 9 _ (ap not (foreign d)))
-
-      pub exit-own : {mid new : List ℕ} {a : Answer} {m : ℕ} → h ≡ r
-          → (m ≡ length (firstOnly (s .queues (lock l)))) × Becomes n old mid (changed (put (holder l) 0 (s .fields)) (released (s .queues) l) s)
-          → Gives n mid new a (finish model (put (holder l) 0 (s .fields)) (changed (put (holder l) 0 (s .fields)) (released (s .queues) l) s .queues) 0 m) → Does (Exit l) n old new s a
-      unfolding decide
-      exit-own e t =
-          accepts H (Exit l) (put (holder l) 0 (s .fields)) (released (s .queues) l) 0 _
-          (unless-no 6 _ someone ∙ unless-no 7 _ there ∙ unless-no 9 _ (ap not (own e)))
-          (t .0 ∙ sym (released-moved (n .processes) (s .queues) (H .placed .place) (H .placed .once) l)) (t .1)
+    pub exit-own : {mid new : List ℕ} {a : Answer} {m : ℕ} → h ≡ r
+        → (m ≡ length (firstOnly (s .queues (lock l)))) × Becomes n old mid (changed (put (holder l) 0 (s .fields)) (released (s .queues) l) s)
+        → Gives n mid new a (finish model (put (holder l) 0 (s .fields)) (changed (put (holder l) 0 (s .fields)) (released (s .queues) l) s .queues) 0 m) → Does (Exit l) n old new s a
+    unfolding decide
+    exit-own e t =
+        accepts H (Exit l) (put (holder l) 0 (s .fields)) (released (s .queues) l) 0 _
+        (tested .passed z _ ∙ unless-no 9 _ (ap not (own e)))
+        (t .0 ∙ sym (released-moved (n .processes) (s .queues) (H .placed .place) (H .placed .once) l)) (t .1)
 
 -- ---- a lock is released: nobody waits for it, or the first who does moves
 

@@ -2,9 +2,9 @@
 -- the waiter's comes last. Assumes nothing.
 use Prim.Native.Nat.{ℕ, _+_, _%_, _≤_}
 use native.Mathlib.Omega.{arith}
-use mathlib.Core.Path.{_≡_, sym, ap, _∙_, subst}
+use mathlib.Core.Path.{_≡_, refl, sym, ap, _∙_, subst}
 use mathlib.Core.Logic.{_≢_}
-use mathlib.Core.Bool.{true, false, not, _||_, or-true}
+use mathlib.Core.Bool.{true, false, not, _||_}
 use mathlib.Core.List.{List, [], _∷_, _++_}
 use lib.Dec.{eqb}
 use lib.ListN.{length}
@@ -12,22 +12,22 @@ use Rattle.model.specs.declared.Shape.{Shape}
 use Rattle.model.specs.declared.Ticks.{Ticks}
 use Rattle.model.specs.declared.Answer.{Answer}
 use Rattle.model.specs.declared.Call.the-variants.{Wait}
-use Rattle.model.specs.Queue.{Queue, bit, outside, inside, member, count, firstOnly, remove, insert, move, toReady}
+use Rattle.model.specs.Queue.{Queue, bit, outside, member, count, firstOnly, remove, insert, move, toReady}
 use Rattle.model.specs.Queue.Queue.{ready, lock, condition}
 use Rattle.model.specs.Field.{Fields, put, priorities}
 use Rattle.model.specs.Field.Field.{clock, running, timer, holder, wakeup}
-use Rattle.model.specs.Rules.{decide, released, alarm}
+use Rattle.model.specs.Rules.{unless, decide, released, alarm}
 use Rattle.model.specs.Rules.Effect.{accept}
 use Rattle.model.specs.Machine.{State, model, moves, arrivals, finish, refusal}
 use Rattle.model.specs.Valid.{Valid}
-use Rattle.model.proofs.Tests.{EqCase, holds, fails, eqb-case, eqb-yes, eqb-no, not-true}
+use Rattle.model.proofs.Tests.{EqCase, holds, fails, eqb-case, eqb-yes, eqb-no}
 use Rattle.model.proofs.Lists.{count-remove-other, count-insert, member-count, counted-member}
 use Rattle.model.proofs.Places.{moves-append, arrivals-append}
 use Rattle.model.proofs.Loops.{released-moved}
 use Rattle.area.specs.Holds.{Holds, Becomes, with, sent, Gives}
-use Rattle.area.specs.Calls.{Does, changed}
-use Rattle.area.proofs.Outcomes.{unless-yes, unless-no, choose-yes, choose-no, refuses, accepts}
-use Rattle.area.proofs.Shared.{runner-stands}
+use Rattle.area.specs.Calls.{Does, CallingTwo, changed}
+use Rattle.moves.proofs.Outcomes.{unless-yes, unless-no, choose-yes, choose-no, Tested, two-tested, refuses, refuses-by, accepts}
+use Rattle.moves.proofs.Shared.{runner-stands}
 
 -- ---- the timer, 0 for none and 1 in the place of 0
 
@@ -68,9 +68,9 @@ pub waiter-stands : {n : Shape} (s : State model) (l : ℕ) {r : ℕ} → r ≡ 
     → member r (changed (put (holder l) 0 (s .fields)) (released (s .queues) l) s .queues ready) ≡ true
 waiter-stands s l {r} er v z = stays-ready (priorities (s .fields)) r (firstOnly (s .queues (lock l))) (s .queues) (runner-stands er v z)
 
--- ---- the rule, with r the running process, h the lock's holder and w the condition's wakeup
+-- ---- the rule, with r the running process, j the code of its first tests, h the lock's holder and w the condition's wakeup
 
-module _ {n : Shape} {old : List ℕ} {s : State model} (H : Holds n old s) (l k : ℕ) (t : Ticks) {r : ℕ} (er : r ≡ s .fields running) where
+module _ {n : Shape} {old : List ℕ} {s : State model} (H : Holds n old s) (l k : ℕ) (t : Ticks) {r j : ℕ} (er : r ≡ s .fields running) (ej : CallingTwo r (n .locks) l (n .conditions) k j) where
   -- the lock is released
   abbrev left : State model
   left = changed (put (holder l) 0 (s .fields)) (released (s .queues) l) s
@@ -79,55 +79,43 @@ module _ {n : Shape} {old : List ℕ} {s : State model} (H : Holds n old s) (l k
   abbrev asleep : Fields
   asleep = put (timer r) (alarm (s .fields clock) (t .0)) (left .fields)
 
-  pub wait-nobody : {a : Answer} → r ≡ 0 → a ≡ refusal 6 → Does (Wait l k t) n old old s a
+  tested : Tested j (λ e. unless (eqb (s .fields running) 0) 6 (unless (outside (n .locks) l || outside (n .conditions) k) 7 e))
+  tested = rw (← er) (two-tested ej)
+
+  pub wait-refused : {a : Answer} → j ≢ 0 → a ≡ refusal j → Does (Wait l k t) n old old s a
   unfolding decide
-  wait-nobody z = refuses H (Wait l k t) 6 (unless-yes 6 _ (eqb-yes (s .fields running) 0 (sym er ∙ z)))
+  wait-refused = refuses-by H (Wait l k t) _ refl tested
 
-  module _ (z : r ≢ 0) where
-    someone : eqb (s .fields running) 0 ≡ false
-    someone = eqb-no (s .fields running) 0 (λ e. z (er ∙ e))
-
-    pub wait-no-lock : {a : Answer} → outside (n .locks) l ≡ true → a ≡ refusal 7 → Does (Wait l k t) n old old s a
+  module _ (z : j ≡ 0) {h : ℕ} (eh : h ≡ s .fields (holder l)) where
+    pub wait-foreign : {a : Answer} → h ≢ r → a ≡ refusal 9 → Does (Wait l k t) n old old s a
     unfolding decide
-    wait-no-lock o = refuses H (Wait l k t) 7 (unless-no 6 _ someone ∙ unless-yes 7 _ (rw o))
+    wait-foreign d =
+        refuses H (Wait l k t) 9
+        (tested .passed z _ ∙ unless-yes 9 _ (ap not (eqb-no (s .fields (holder l)) (s .fields running) (λ e. d (eh ∙ e ∙ sym er)))))
 
-    pub wait-no-condition : {a : Answer} → outside (n .conditions) k ≡ true → a ≡ refusal 7 → Does (Wait l k t) n old old s a
-    unfolding decide
-    wait-no-condition o = refuses H (Wait l k t) 7 (unless-no 6 _ someone ∙ unless-yes 7 _ (rw (o, or-true)))
+    module _ (o : h ≡ r) {w m : ℕ} (ew : w ≡ s .fields (wakeup k)) (em : m ≡ length (firstOnly (s .queues (lock l)))) where
+      own : not (eqb (s .fields (holder l)) (s .fields running)) ≡ false
+      own = ap not (eqb-yes (s .fields (holder l)) (s .fields running) (sym eh ∙ o ∙ er))
 
-    module _ (il : inside (n .locks) l ≡ true) (ik : inside (n .conditions) k ≡ true) {h : ℕ} (eh : h ≡ s .fields (holder l)) where
-      there : outside (n .locks) l || outside (n .conditions) k ≡ false
-      there = rw (not-true (outside (n .locks) l) il, not-true (outside (n .conditions) k) ik)
+      came : m ≡ arrivals (s .queues ready) (released (s .queues) l)
+      came = em ∙ sym (released-moved (n .processes) (s .queues) (H .placed .place) (H .placed .once) l)
 
-      pub wait-foreign : {a : Answer} → h ≢ r → a ≡ refusal 9 → Does (Wait l k t) n old old s a
+      pub wait-over : {mid new : List ℕ} {a : Answer} → w ≢ 0 → Becomes n old mid (with (wakeup k) 0 left)
+          → Gives n mid new a (finish model (put (wakeup k) 0 (left .fields)) (left .queues) 0 m) → Does (Wait l k t) n old new s a
       unfolding decide
-      wait-foreign d =
-          refuses H (Wait l k t) 9
-          (unless-no 6 _ someone ∙ unless-no 7 _ there ∙ unless-yes 9 _ (ap not (eqb-no (s .fields (holder l)) (s .fields running) (λ e. d (eh ∙ e ∙ sym er)))))
+      wait-over d =
+          accepts H (Wait l k t) (put (wakeup k) 0 (left .fields)) (released (s .queues) l) 0 m
+          (tested .passed z _ ∙ unless-no 9 _ own ∙ choose-yes _ _ (ap not (eqb-no (s .fields (wakeup k)) 0 (λ e. d (ew ∙ e)))))
+          came
 
-      module _ (o : h ≡ r) {w m : ℕ} (ew : w ≡ s .fields (wakeup k)) (em : m ≡ length (firstOnly (s .queues (lock l)))) where
-        own : not (eqb (s .fields (holder l)) (s .fields running)) ≡ false
-        own = ap not (eqb-yes (s .fields (holder l)) (s .fields running) (sym eh ∙ o ∙ er))
-
-        came : m ≡ arrivals (s .queues ready) (released (s .queues) l)
-        came = em ∙ sym (released-moved (n .processes) (s .queues) (H .placed .place) (H .placed .once) l)
-
-        pub wait-over : {mid new : List ℕ} {a : Answer} → w ≢ 0 → Becomes n old mid (with (wakeup k) 0 left)
-            → Gives n mid new a (finish model (put (wakeup k) 0 (left .fields)) (left .queues) 0 m) → Does (Wait l k t) n old new s a
-        unfolding decide
-        wait-over d =
-            accepts H (Wait l k t) (put (wakeup k) 0 (left .fields)) (released (s .queues) l) 0 m
-            (unless-no 6 _ someone ∙ unless-no 7 _ there ∙ unless-no 9 _ own ∙ choose-yes _ _ (ap not (eqb-no (s .fields (wakeup k)) 0 (λ e. d (ew ∙ e)))))
-            came
-
-        pub wait-sleeps : {mid new : List ℕ} {a : Answer} → w ≡ 0 → Becomes n old mid (changed asleep ((r, condition k) ∷ []) left)
-            → Gives n mid new a (finish model asleep (changed asleep ((r, condition k) ∷ []) left .queues) 1 m) → Does (Wait l k t) n old new s a
-        unfolding decide
-        wait-sleeps {mid} {new} {a} e b g =
-            let q = moves-append (priorities asleep) (released (s .queues) l) ((r, condition k) ∷ []) (s .queues) in
-            accepts H (Wait l k t) {mid = mid} {new = new} {a = a} asleep (released (s .queues) l ++ ((r, condition k) ∷ [])) 1 m
-            (unless-no 6 _ someone ∙ unless-no 7 _ there ∙ unless-no 9 _ own ∙ choose-no _ _ (ap not (eqb-yes (s .fields (wakeup k)) 0 (sym ew ∙ e)))
-            ∙ ap {A = ℕ} (λ x. accept (put (timer x) (alarm (s .fields clock) (t .0)) (left .fields)) (released (s .queues) l ++ ((x, condition k) ∷ [])) 1) (sym er))
-            (came ∙ (let d = arrivals-append (s .queues ready) (released (s .queues) l) ((r, condition k) ∷ []) in omega arith))
-            (rw q b)
-            (rw q g)
+      pub wait-sleeps : {mid new : List ℕ} {a : Answer} → w ≡ 0 → Becomes n old mid (changed asleep ((r, condition k) ∷ []) left)
+          → Gives n mid new a (finish model asleep (changed asleep ((r, condition k) ∷ []) left .queues) 1 m) → Does (Wait l k t) n old new s a
+      unfolding decide
+      wait-sleeps {mid} {new} {a} e b g =
+          let q = moves-append (priorities asleep) (released (s .queues) l) ((r, condition k) ∷ []) (s .queues) in
+          accepts H (Wait l k t) {mid = mid} {new = new} {a = a} asleep (released (s .queues) l ++ ((r, condition k) ∷ [])) 1 m
+          (tested .passed z _ ∙ unless-no 9 _ own ∙ choose-no _ _ (ap not (eqb-yes (s .fields (wakeup k)) 0 (sym ew ∙ e)))
+          ∙ ap {A = ℕ} (λ x. accept (put (timer x) (alarm (s .fields clock) (t .0)) (left .fields)) (released (s .queues) l ++ ((x, condition k) ∷ [])) 1) (sym er))
+          (came ∙ (let d = arrivals-append (s .queues ready) (released (s .queues) l) ((r, condition k) ∷ []) in omega arith))
+          (rw q b)
+          (rw q g)

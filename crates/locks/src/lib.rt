@@ -1,7 +1,9 @@
 // Monitor locks, on an area that holds a valid state: Enter and Exit here, Wait in waits. Assumes nothing.
-use area::answers;
+use area::places;
 use model::Answer;
 use model::Shape;
+use moves::answers;
+use moves::codes;
 ghost use mathlib.Core.Path.{_≡_};
 ghost use mathlib.Core.Bool.{true};
 ghost use mathlib.Core.List.{[], _∷_};
@@ -26,13 +28,13 @@ fn release(area: &mut [u16], shape: Shape, lock: u16) -> u16
     ensures { λ r. ⌜ ((s : State model) → Holds shape (now (area .entry)) s → (r ≡ length (firstOnly (s .queues (Queue.lock lock)))) × Becomes shape (now (area .entry)) (now (area .exit)) (changed (put (holder lock) 0 (s .fields)) (released (s .queues) lock) s)) ⌝ }
 {
     let from = area::lock_at(shape, lock);
-    let first = area::first_in(area, shape, from);
+    let first = moves::first_in(area, shape, from);
     area::set_holder(area, shape, lock, 0);
     if first == 0 {
         return 0;
     }
     let to = area::ready_at();
-    area::send(area, shape, from, to, first, 0);
+    moves::send(area, shape, from, to, first, 0);
     1
 }
 
@@ -42,27 +44,22 @@ fn block(area: &mut [u16], shape: Shape, lock: u16, p: u16)
     requires { ⌜ inside (shape .locks) lock ≡ true ⌝ }
     ensures { λ _. ⌜ ((s : State model) → Holds shape (now (area .entry)) s → member p (s .queues ready) ≡ true → Becomes shape (now (area .entry)) (now (area .exit)) (changed (put (failed p) 1 (s .fields)) ((p, Queue.lock lock) ∷ []) s)) ⌝ }
 {
-    area::set_failed(area, shape, p, 1);
+    area::put(area, places::failed(shape, p), 1);
     let from = area::ready_at();
     let to = area::lock_at(shape, lock);
-    area::send(area, shape, from, to, p, 0);
+    moves::send(area, shape, from, to, p, 0);
 }
 
 pub fn enter(area: &mut [u16], shape: Shape, lock: u16) -> Answer
     requires { ⌜ Stands shape (now area) ⌝ }
     ensures { λ r. ⌜ ((s : State model) → Holds shape (now (area .entry)) s → Valid shape s → Does (Enter lock) shape (now (area .entry)) (now (area .exit)) s r) ⌝ }
 {
-    let running = area::running_of(area);
-    if running == 0 {
-        return answers::refusal(6);
+    let running = area::get(area, places::running());
+    let code = codes::calling(running, shape.locks, lock);
+    if code != 0 {
+        return answers::refusal(code);
     }
-    if lock == 0 {
-        return answers::refusal(7);
-    }
-    if shape.locks < lock {
-        return answers::refusal(7);
-    }
-    let holder = area::holder_of(area, shape, lock);
+    let holder = area::get(area, places::holder(shape, lock));
     if holder == running {
         return answers::refusal(8);
     }
@@ -78,17 +75,12 @@ pub fn exit(area: &mut [u16], shape: Shape, lock: u16) -> Answer
     requires { ⌜ Stands shape (now area) ⌝ }
     ensures { λ r. ⌜ ((s : State model) → Holds shape (now (area .entry)) s → Valid shape s → Does (Exit lock) shape (now (area .entry)) (now (area .exit)) s r) ⌝ }
 {
-    let running = area::running_of(area);
-    if running == 0 {
-        return answers::refusal(6);
+    let running = area::get(area, places::running());
+    let code = codes::calling(running, shape.locks, lock);
+    if code != 0 {
+        return answers::refusal(code);
     }
-    if lock == 0 {
-        return answers::refusal(7);
-    }
-    if shape.locks < lock {
-        return answers::refusal(7);
-    }
-    let holder = area::holder_of(area, shape, lock);
+    let holder = area::get(area, places::holder(shape, lock));
     if holder != running {
         return answers::refusal(9);
     }

@@ -1,9 +1,11 @@
 // Waiting on a condition: Wait. Assumes nothing.
 use crate::release;
-use area::answers;
+use area::places;
 use model::Answer;
 use model::Shape;
 use model::Ticks;
+use moves::answers;
+use moves::codes;
 ghost use mathlib.Core.Path.{_≡_};
 ghost use mathlib.Core.Bool.{true};
 ghost use mathlib.Core.List.{[], _∷_};
@@ -38,43 +40,32 @@ fn sleep(area: &mut [u16], shape: Shape, condition: u16, p: u16, ticks: Ticks)
     requires { ⌜ inside (shape .conditions) condition ≡ true ⌝ }
     ensures { λ _. ⌜ ((s : State model) → Holds shape (now (area .entry)) s → member p (s .queues ready) ≡ true → Becomes shape (now (area .entry)) (now (area .exit)) (changed (put (timer p) (alarm (s .fields clock) (ticks .0)) (s .fields)) ((p, Queue.condition condition) ∷ []) s)) ⌝ }
 {
-    let now = area::clock_of(area);
+    let now = area::get(area, places::clock());
     let t = ticks.0;
     let due = alarm_at(now, t);
-    area::set_timer(area, shape, p, due);
+    area::put(area, places::timer(shape, p), due);
     let from = area::ready_at();
     let to = area::condition_at(shape, condition);
-    area::send(area, shape, from, to, p, 1);
+    moves::send(area, shape, from, to, p, 1);
 }
 
 pub fn wait(area: &mut [u16], shape: Shape, lock: u16, condition: u16, ticks: Ticks) -> Answer
     requires { ⌜ Stands shape (now area) ⌝ }
     ensures { λ r. ⌜ ((s : State model) → Holds shape (now (area .entry)) s → Valid shape s → Does (Wait lock condition ticks) shape (now (area .entry)) (now (area .exit)) s r) ⌝ }
 {
-    let running = area::running_of(area);
-    if running == 0 {
-        return answers::refusal(6);
+    let running = area::get(area, places::running());
+    let code = codes::calling_two(running, shape.locks, lock, shape.conditions, condition);
+    if code != 0 {
+        return answers::refusal(code);
     }
-    if lock == 0 {
-        return answers::refusal(7);
-    }
-    if shape.locks < lock {
-        return answers::refusal(7);
-    }
-    if condition == 0 {
-        return answers::refusal(7);
-    }
-    if shape.conditions < condition {
-        return answers::refusal(7);
-    }
-    let holder = area::holder_of(area, shape, lock);
+    let holder = area::get(area, places::holder(shape, lock));
     if holder != running {
         return answers::refusal(9);
     }
     let moved = release(area, shape, lock);
-    let wakeup = area::wakeup_of(area, shape, condition);
+    let wakeup = area::get(area, places::wakeup(shape, condition));
     if wakeup != 0 {
-        area::set_wakeup(area, shape, condition, 0);
+        area::put(area, places::wakeup(shape, condition), 0);
         return answers::finish(area, shape, 0, moved);
     }
     sleep(area, shape, condition, running, ticks);

@@ -69,8 +69,8 @@ module _ {old : List ℕ} (n : Shape) (said : n ≡ shapeOf old) (fit : Words ol
       performs fit S (e (shapeOf old) said (own-holds fit S) (S .valid))
 
 -- a call known by what it is
-pub performs-as : {c d : Call} {old new : List ℕ} {a : Answer} → c ≡ d → Performs d old new a → Performs c old new a
-performs-as {old = old} {new = new} {a = a} e P = subst (λ (k : Call). Performs k old new a) (sym e) P
+pub does-as : {c d : Call} {n : Shape} {old new : List ℕ} {a : Answer} (s : State model) → c ≡ d → Does d n old new s a → Does c n old new s a
+does-as {n = n} {old = old} {new = new} {a = a} s e D = subst (λ (k : Call). Does k n old new s a) (sym e) D
 
 -- ---- List
 

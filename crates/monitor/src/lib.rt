@@ -1,143 +1,55 @@
 // The kernel's calls on any words whatever: an unsound area is refused, and a sound one is served. Assumes nothing.
 use model::Answer;
 use model::Call;
-use model::Priority;
-use model::Process;
-use model::Ticks;
+use model::Shape;
 use queues::listing::Listed;
 ghost use mathlib.Core.Path.{_≡_};
-ghost use Rattle.model.specs.declared.Call.the-variants.{Enter, Exit, Wait, Notify, Broadcast, Naked, Requeue, SetPriority, Tick};
+ghost use Rattle.model.specs.Machine.{State, model};
+ghost use Rattle.model.specs.Valid.{Valid};
+ghost use Rattle.area.specs.Holds.{Holds};
+ghost use Rattle.area.specs.Calls.{Stands, Does};
 ghost use Rattle.monitor.specs.Calls.{Performs, ListsOn};
 ghost use Rattle.monitor.specs.Wire.{packed, packedList};
 
 pub mod replay;
 
-// ---- the nine calls
+// ---- the calls
 
-// Enter: take the lock, or queue for it.
-pub fn enter(area: &mut [u16], lock: u16) -> Answer
-    ensures { λ r. ⌜ Performs (Enter lock) (now (area .entry)) (now (area .exit)) r ⌝ }
-{
-    if !sound::sound(area) {
-        return area::answers::refusal(1);
-    }
-    let shape = area::shape_of(area);
-    locks::enter(area, shape, lock)
-}
-
-// Exit: leave the lock.
-pub fn exit(area: &mut [u16], lock: u16) -> Answer
-    ensures { λ r. ⌜ Performs (Exit lock) (now (area .entry)) (now (area .exit)) r ⌝ }
-{
-    if !sound::sound(area) {
-        return area::answers::refusal(1);
-    }
-    let shape = area::shape_of(area);
-    locks::exit(area, shape, lock)
-}
-
-// Wait: leave the lock and sleep on the condition, at most so many ticks; 0 is for ever.
-pub fn wait(area: &mut [u16], lock: u16, condition: u16, ticks: Ticks) -> Answer
-    ensures { λ r. ⌜ Performs (Wait lock condition ticks) (now (area .entry)) (now (area .exit)) r ⌝ }
-{
-    if !sound::sound(area) {
-        return area::answers::refusal(1);
-    }
-    let shape = area::shape_of(area);
-    locks::waits::wait(area, shape, lock, condition, ticks)
-}
-
-// Notify: wake the first of the condition.
-pub fn notify(area: &mut [u16], condition: u16) -> Answer
-    ensures { λ r. ⌜ Performs (Notify condition) (now (area .entry)) (now (area .exit)) r ⌝ }
-{
-    if !sound::sound(area) {
-        return area::answers::refusal(1);
-    }
-    let shape = area::shape_of(area);
-    wakes::notify(area, shape, condition)
-}
-
-// Broadcast: wake all of the condition.
-pub fn broadcast(area: &mut [u16], condition: u16) -> Answer
-    ensures { λ r. ⌜ Performs (Broadcast condition) (now (area .entry)) (now (area .exit)) r ⌝ }
-{
-    if !sound::sound(area) {
-        return area::answers::refusal(1);
-    }
-    let shape = area::shape_of(area);
-    wakes::broadcast(area, shape, condition)
-}
-
-// Naked: a device's notify; over nobody it sets the condition's wakeup.
-pub fn naked(area: &mut [u16], condition: u16) -> Answer
-    ensures { λ r. ⌜ Performs (Naked condition) (now (area .entry)) (now (area .exit)) r ⌝ }
-{
-    if !sound::sound(area) {
-        return area::answers::refusal(1);
-    }
-    let shape = area::shape_of(area);
-    wakes::naked(area, shape, condition)
-}
-
-// Requeue: move a process between ready (0) and the parks.
-pub fn requeue(area: &mut [u16], source: u16, destination: u16, process: Process) -> Answer
-    ensures { λ r. ⌜ Performs (Requeue source destination process) (now (area .entry)) (now (area .exit)) r ⌝ }
-{
-    if !sound::sound(area) {
-        return area::answers::refusal(1);
-    }
-    let shape = area::shape_of(area);
-    queues::requeue(area, shape, source, destination, process)
-}
-
-// SetPriority: the running process takes this priority.
-pub fn set_priority(area: &mut [u16], priority: Priority) -> Answer
-    ensures { λ r. ⌜ Performs (SetPriority priority) (now (area .entry)) (now (area .exit)) r ⌝ }
-{
-    if !sound::sound(area) {
-        return area::answers::refusal(1);
-    }
-    let shape = area::shape_of(area);
-    queues::ranks::set_priority(area, shape, priority)
-}
-
-// Tick: the clock goes on by one, and each process whose timer rings wakes.
-pub fn tick(area: &mut [u16]) -> Answer
-    ensures { λ r. ⌜ Performs Tick (now (area .entry)) (now (area .exit)) r ⌝ }
-{
-    if !sound::sound(area) {
-        return area::answers::refusal(1);
-    }
-    let shape = area::shape_of(area);
-    wakes::clock::tick(area, shape)
-}
-
-// ---- any of them
-
-// The one way by which several calls are made.
-pub fn perform(area: &mut [u16], call: Call) -> Answer
-    ensures { λ r. ⌜ Performs call (now (area .entry)) (now (area .exit)) r ⌝ }
+// The call on an area that holds a valid state, by the crate that has it.
+fn act(area: &mut [u16], shape: Shape, call: Call) -> Answer
+    requires { ⌜ Stands shape (now area) ⌝ }
+    ensures { λ r. ⌜ ((s : State model) → Holds shape (now (area .entry)) s → Valid shape s → Does call shape (now (area .entry)) (now (area .exit)) s r) ⌝ }
 {
     match call {
-        Call::Enter { lock } => enter(area, lock),
-        Call::Exit { lock } => exit(area, lock),
+        Call::Enter { lock } => locks::enter(area, shape, lock),
+        Call::Exit { lock } => locks::exit(area, shape, lock),
         Call::Wait {
             lock,
             condition,
             ticks,
-        } => wait(area, lock, condition, ticks),
-        Call::Notify { condition } => notify(area, condition),
-        Call::Broadcast { condition } => broadcast(area, condition),
-        Call::Naked { condition } => naked(area, condition),
+        } => locks::waits::wait(area, shape, lock, condition, ticks),
+        Call::Notify { condition } => wakes::notify(area, shape, condition),
+        Call::Broadcast { condition } => wakes::broadcast(area, shape, condition),
+        Call::Naked { condition } => wakes::naked(area, shape, condition),
         Call::Requeue {
             source,
             destination,
             process,
-        } => requeue(area, source, destination, process),
-        Call::SetPriority { priority } => set_priority(area, priority),
-        Call::Tick => tick(area),
+        } => queues::requeue(area, shape, source, destination, process),
+        Call::SetPriority { priority } => queues::ranks::set_priority(area, shape, priority),
+        Call::Tick => wakes::clock::tick(area, shape),
     }
+}
+
+// Any call on any words. This is the one door: here it is asked whether the area is sound.
+pub fn perform(area: &mut [u16], call: Call) -> Answer
+    ensures { λ r. ⌜ Performs call (now (area .entry)) (now (area .exit)) r ⌝ }
+{
+    if !sound::sound(area) {
+        return moves::answers::refusal(1);
+    }
+    let shape = area::shape_of(area);
+    act(area, shape, call)
 }
 
 // ---- reads

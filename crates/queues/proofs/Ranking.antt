@@ -20,8 +20,8 @@ use Rattle.model.specs.Valid.{Valid}
 use Rattle.model.proofs.Tests.{eqb-yes, eqb-no, leb-yes, leb-no}
 use Rattle.area.specs.Holds.{Holds, Becomes, with, sent, Gives}
 use Rattle.area.specs.Calls.{Does}
-use Rattle.area.proofs.Outcomes.{unless-yes, unless-no, refuses, accepts}
-use Rattle.area.proofs.Shared.{runner-stands}
+use Rattle.moves.proofs.Outcomes.{unless-yes, unless-no, refuses, accepts}
+use Rattle.moves.proofs.Shared.{runner-stands}
 
 -- r is the running process
 module _ {n : Shape} {old : List ℕ} {s : State model} (H : Holds n old s) (v : Priority) {r : ℕ} (er : r ≡ s .fields running) where

@@ -22,9 +22,9 @@ use Rattle.area.specs.Layout.{at}
 use Rattle.area.specs.Layout.Slot.{Tail}
 use Rattle.area.specs.Holds.{Holds, Becomes, Moves, Gives}
 use Rattle.area.specs.Calls.{Does, changed}
-use Rattle.area.proofs.Numbers.{is-outside, is-inside, not-outside}
-use Rattle.area.proofs.Shared.{trying}
-use Rattle.area.proofs.Outcomes.{unless-yes, unless-no, refuses, accepts}
+use Rattle.moves.proofs.Numbers.{is-outside, is-inside, not-outside}
+use Rattle.moves.proofs.Shared.{trying}
+use Rattle.moves.proofs.Outcomes.{unless-yes, unless-no, refuses, accepts}
 
 -- ---- ready and the parks
 

@@ -1,8 +1,8 @@
 // Places in queues, on an area that holds a valid state: Requeue here, SetPriority in ranks, List in listing. Assumes nothing.
-use area::answers;
 use model::Answer;
 use model::Process;
 use model::Shape;
+use moves::answers;
 ghost use mathlib.Core.Path.{_≡_};
 ghost use mathlib.Core.Logic.{_≢_};
 ghost use mathlib.Core.Bool.{true, false};
@@ -59,7 +59,7 @@ pub fn requeue(
     }
     let from = area::park_at(source);
     let to = area::park_at(destination);
-    if !area::send(area, shape, from, to, p, 0) {
+    if !moves::send(area, shape, from, to, p, 0) {
         return answers::refusal(10);
     }
     answers::finish(area, shape, 0, arrives(source, destination))

@@ -58,11 +58,11 @@ pub fn list(area: &[u16], shape: Shape, kind: u16, number: u16, buffer: &mut [u1
     }
     // a buffer with room for every process has room for any queue
     if buffer.len() < shape.processes as usize {
-        if buffer.len() < area::count_in(area, shape, i) as usize {
+        if buffer.len() < moves::count_in(area, shape, i) as usize {
             return Listed { code: 5, count: 0 };
         }
     }
-    let count = area::copy_out(area, shape, i, buffer);
+    let count = moves::copy_out(area, shape, i, buffer);
     Listed {
         code: 0,
         count: count,

@@ -1,8 +1,10 @@
 // Priorities: SetPriority. Assumes nothing.
-use area::answers;
+use area::layout;
+use area::places;
 use model::Answer;
 use model::Priority;
 use model::Shape;
+use moves::answers;
 ghost use Rattle.model.specs.declared.Call.the-variants.{SetPriority};
 ghost use Rattle.model.specs.Machine.{State, model};
 ghost use Rattle.model.specs.Valid.{Valid};
@@ -14,14 +16,14 @@ pub fn set_priority(area: &mut [u16], shape: Shape, priority: Priority) -> Answe
     ensures { λ r. ⌜ ((s : State model) → Holds shape (now (area .entry)) s → Valid shape s → Does (SetPriority priority) shape (now (area .entry)) (now (area .exit)) s r) ⌝ }
 {
     let v = priority.0;
-    let running = area::running_of(area);
+    let running = area::get(area, places::running());
     if running == 0 {
         return answers::refusal(6);
     }
-    if 7 < v {
+    if layout::HIGHEST < v {
         return answers::refusal(4);
     }
     let at = area::ready_at();
-    area::move_process(area, shape, at, at, running, v, 0);
+    moves::move_process(area, shape, at, at, running, v, 0);
     answers::finish(area, shape, 0, 0)
 }

@@ -6,4 +6,5 @@ pub mod Walk
 pub mod Tour
 pub mod Moves
 pub mod Frame
+pub mod Gathering
 pub mod Examples

@@ -4,20 +4,20 @@ ghost use mathlib.Core.Path.{_≡_};
 ghost use Rattle.ring.specs.Link.{Stands, next};
 
 // The records, and the process at which the walker stands.
-pub struct Walker<'a> {
-    pub records: &'a [u16],
-    pub at: u16,
+struct Walker<'a> {
+    records: &'a [u16],
+    at: u16,
 }
 
 // A walker at p.
-pub fn new<'a>(records: &'a [u16], p: u16) -> Walker<'a>
+fn new<'a>(records: &'a [u16], p: u16) -> Walker<'a>
     ensures { λ w. ⌜ (w .records ≡ records .entry) × (w .at ≡ p) ⌝ }
 {
     Walker { records, at: p }
 }
 
 // The walker one process on.
-pub fn step<'a>(w: Walker<'a>) -> Walker<'a>
+fn step<'a>(w: Walker<'a>) -> Walker<'a>
     requires { ⌜ Stands (now (w .records)) (w .at) ⌝ }
     ensures { λ v. ⌜ (v .records ≡ w .entry .records) × (v .at ≡ next (now (w .entry .records)) (w .entry .at)) ⌝ }
 {

@@ -33,7 +33,7 @@ use Rattle.sound.proofs.Queues.{kindOf, tailWord, holderWord}
 use Rattle.sound.proofs.Tests.{Fits, Headed}
 use Rattle.sound.proofs.Chains.{Member, member-all}
 use Rattle.sound.proofs.Lists.{hits, every, every-once}
-use Rattle.sound.proofs.Visits.{reading, total, Visited, link-word, flags-word, timer-word, tail-part, next-part, total-hits}
+use Rattle.sound.proofs.Visits.{reading, total, Visited, link-word, flags-word, timer-word, next-part, total-hits}
 use Rattle.sound.proofs.Whole.{Whole, falling-ext}
 
 module _ (ws : List ℕ) (small : Words ws) (S : Sound ws) where
@@ -62,59 +62,61 @@ module _ (ws : List ℕ) (small : Words ws) (S : Sound ws) where
   counted : Counted ws
   counted =
       let c = counts in let l = S .long in
-      record { header = omega arith; some-process = c .some; processes = c .processes; unnamed = S .tidy Parks refl; parks = c .parks; long = l }
+      record { header = omega arith; some-process = c .some; processes = c .processes; unnamed = omega (arith, S .tidy Parks refl); parks = c .parks; long = l }
 
   -- ---- the words of a queue
 
+  tail-whole : (q : Queue) → exists n q ≡ true → tailWord ws q / 8 ≡ partsOf n ws (tail q)
+  tail-whole ready h = omega (arith, S .tidy (Tail ready) refl)
+  tail-whole (park k) h = let t = rw h at (S .tidy (Tail (park k)) h) in rw h (omega arith)
+  tail-whole (lock l) h = let t = rw h at (S .tidy (Tail (lock l)) h) in rw h (omega arith)
+  tail-whole (condition c) h = let t = rw h at (S .tidy (Tail (condition c)) h) in rw h (omega arith)
+
+  ends : (q : Queue) → exists n q ≡ true → last (reading ws q) ≡ tailWord ws q / 8
+  ends q h = S .closed q ∙ sym (tail-whole q h)
+
   tail-small : (q : Queue) → exists n q ≡ true → tailWord ws q / 8 ≤ P
-  tail-small ready h = S .tidy (Tail ready) refl .range
-  tail-small (park k) h = S .tidy (Tail (park k)) h .range
-  tail-small (lock l) h = S .tidy (Tail (lock l)) h .range
-  tail-small (condition c) h = S .tidy (Tail (condition c)) h .range
+  tail-small q h = rw (tail-whole q h) (S .tails q)
 
   headed : (q : Queue) → exists n q ≡ true → Headed P (kindOf q) (tailWord ws q) (holderWord ws q)
   headed ready h =
       let t = S .tidy (Tail ready) refl in
-      record { tail = t .range; holder = omega arith; whole = refl; held = λ z. absurd (z refl); plain = λ e z. let l = t .low in omega arith; wakes = λ e z. absurd (omega arith) }
+      record { tail = tail-small ready h; holder = omega arith; whole = refl; held = λ z. absurd (z refl); plain = λ e z. omega arith; wakes = λ e z. absurd (omega arith) }
   headed (park k) h =
-      let t = S .tidy (Tail (park k)) h in
-      record { tail = t .range; holder = omega arith; whole = refl; held = λ z. absurd (z refl); plain = λ e z. let l = t .low in omega arith; wakes = λ e z. absurd (omega arith) }
+      let t = rw h at (S .tidy (Tail (park k)) h) in
+      record { tail = tail-small (park k) h; holder = omega arith; whole = refl; held = λ z. absurd (z refl); plain = λ e z. omega arith; wakes = λ e z. absurd (omega arith) }
   headed (lock l) h =
-      let t = S .tidy (Tail (lock l)) h in
-      let v = S .tidy (Holder l) h in
-      let low = t .low in let lov = v .low in let hi = v .range in let c = counts .processes in
+      let t = rw h at (S .tidy (Tail (lock l)) h) in
+      let v = rw h at (S .tidy (Holder l) h) in
+      let r = rw h at (S .valid .placed .range (holder l)) in
       let b : tailWord ws (lock l) / 1 % 2 ≡ bit (not (eqb (holderWord ws (lock l) / 8 % 1024) 0)) = rw h at (S .locks l) in
       record {
-        tail = t .range;
-        holder = hi;
+        tail = tail-small (lock l) h;
+        holder = omega arith;
         whole = omega arith;
         held = λ z. let o : tailWord ws (lock l) / 1 % 2 ≡ 1 = b ∙ rw (eqb-no (holderWord ws (lock l) / 8 % 1024) 0 (λ e. z (omega arith))) in omega arith;
         plain = λ e z. let o : tailWord ws (lock l) / 1 % 2 ≡ 0 = b ∙ rw (eqb-yes (holderWord ws (lock l) / 8 % 1024) 0 (omega arith)) in omega arith;
         wakes = λ e z. absurd (omega arith);
       }
   headed (condition c) h =
-      let t = S .tidy (Tail (condition c)) h in
-      let low = t .low in
+      let t = rw h at (S .tidy (Tail (condition c)) h) in
       record {
-        tail = t .range;
+        tail = tail-small (condition c) h;
         holder = omega arith;
         whole = refl;
         held = λ z. absurd (z refl);
         plain = λ e z. absurd (z refl);
-        wakes = λ e z. (low, woken);
+        wakes = λ e z. (omega arith, woken);
       }
     where
       woken : tailWord ws (condition c) % 8 ≡ 1 → tailWord ws (condition c) ≡ 1
       woken e =
           let o : partsOf n ws (kept (wakeup c)) ≡ 1 = rw h (omega arith) in
           let empty : reading ws (condition c) ≡ [] = S .valid .wakeups c (rw (eqb-no (partsOf n ws (kept (wakeup c))) 0 (λ z. omega arith))) in
-          let z : 0 ≡ tailWord ws (condition c) / 8 = ap last (sym empty) ∙ (S .closed (condition c) ∙ tail-part ws (condition c) h (counts .processes) (tail-small (condition c) h)) in
+          let z : 0 ≡ tailWord ws (condition c) / 8 = ap last (sym empty) ∙ ends (condition c) h in
           omega arith
 
   -- ---- its ring
-
-  ends : (q : Queue) → exists n q ≡ true → last (reading ws q) ≡ tailWord ws q / 8
-  ends q h = S .closed q ∙ tail-part ws q h (counts .processes) (tail-small q h)
 
   is-inside : (x : ℕ) (q : Queue) → member x (reading ws q) ≡ true → inside P x ≡ true
   is-inside x q m = member-inside n (stateOf ws) (S .valid .placed) x q m
@@ -142,14 +144,17 @@ module _ (ws : List ℕ) (small : Words ws) (S : Sound ws) where
   flag : (x : ℕ) (q : Queue) → member x (reading ws q) ≡ true → flags x / 2 % 2 ≡ bit (isCondition q)
   flag x q m = let e : flags x / 2 % 2 ≡ bit (machine.waiting n (reading ws) x) = rw (is-inside x q m) at (S .waits x) in e ∙ ap bit (waits-is x q m)
 
+  link-low : (x : ℕ) → inside P x ≡ true → link x % 4 ≡ 0
+  link-low x i = let t = rw i at (S .tidy (Link x) i) in omega arith
+
   idle : (x : ℕ) (q : Queue) → member x (reading ws q) ≡ true → isCondition q ≡ false → (flags x ≡ 0) × (timer x ≡ 0) × (link x % 4 ≡ 0)
   idle x q m e =
       let i = is-inside x q m in
-      let f = S .tidy (Flags x) i in let l = S .tidy (Link x) i in
+      let f = rw i at (S .tidy (Flags x) i) in
       let b : flags x / 2 % 2 ≡ 0 = flag x q m ∙ rw e in
       let t : timer x / 1 % 65536 ≡ 0 = rw i at (S .valid .timers x (waits-is x q m ∙ e)) in
       let s = small (at n (Timer x)) in
-      (omega arith, omega arith, l .1)
+      (omega arith, omega arith, link-low x i)
 
   fits : (x : ℕ) (q : Queue) → member x (reading ws q) ≡ true → Fits (kindOf q) (link x) (flags x) (timer x)
   fits x ready m = record { waits = λ z. absurd (omega arith); idle = λ z. idle x ready m refl; blocked = λ z. absurd (omega arith) }
@@ -157,12 +162,12 @@ module _ (ws : List ℕ) (small : Words ws) (S : Sound ws) where
   fits x (lock l) m =
       let i = is-inside x (lock l) m in
       let b : link x / 4 % 2 ≡ 1 = rw i at (S .valid .blocked l x m) in
-      let t = S .tidy (Link x) i in
+      let t = link-low x i in
       record { waits = λ z. absurd (omega arith); idle = λ z. idle x (lock l) m refl; blocked = λ z. omega arith }
   fits x (condition c) m =
       let i = is-inside x (condition c) m in
       let b : link x / 4 % 2 ≡ 0 = rw i at (S .valid .asleep c x m) in
-      let t = S .tidy (Link x) i in let f = S .tidy (Flags x) i in
+      let t = link-low x i in let f = rw i at (S .tidy (Flags x) i) in
       let g : flags x / 2 % 2 ≡ 1 = flag x (condition c) m in
       record { waits = λ z. (omega arith, omega arith); idle = λ z. absurd (z refl); blocked = λ z. absurd (omega arith) }
 
@@ -173,7 +178,7 @@ module _ (ws : List ℕ) (small : Words ws) (S : Sound ws) where
   free x ready h m e = not-zero x ready m e
   free x (park k) h m e = not-zero x (park k) m e
   free x (lock l) h m e =
-      let v = S .tidy (Holder l) h .range in let c = counts .processes in
+      let v = rw h at (S .tidy (Holder l) h) in
       let o : partsOf n ws (kept (holder l)) ≡ x = rw h (omega arith) in
       true≢false (sym m ∙ rw o at (S .valid .holders l))
   free x (condition c) h m e = not-zero x (condition c) m e
@@ -199,10 +204,10 @@ module _ (ws : List ℕ) (small : Words ws) (S : Sound ws) where
     where
       go : (ys : List ℕ) → Linked (nextIn rs) (getD ws 5 0 / 8) ys → lastOf 0 ys ≡ getD ws 5 0 / 8 → ((x : ℕ) → member x ys ≡ true → inside P x ≡ true) → getD ws 4 0 / 8 % 1024 ≡ first ys → Runs ws rs P
       go [] l e m f =
-          let t = S .tidy Running refl in let a = t .range in let b = t .low in let c = counts .processes in
+          let t = S .tidy Running refl in
           record { nobody = λ z. omega arith; tail = tail-small ready refl; somebody = λ z. absurd (z (sym e)) }
       go (y ∷ ys) l e m f =
-          let t = S .tidy Running refl in let a = t .range in let b = t .low in let c = counts .processes in
+          let t = S .tidy Running refl in
           let i = m y (member-here y ys) in
           let u = inside-bounds P y i in
           let last-in = inside-bounds P (lastOf y ys) (m (lastOf y ys) (last-member y ys)) in

@@ -1,5 +1,5 @@
 -- The queues of a kind, one after the other: how a pass over their words goes on or breaks off, and that it visits the queues of the area. Assumes nothing.
-use Prim.Native.Nat.{ℕ, zero, suc, _+_, _-_, _*_, _/_, _≤_, _<_}
+use Prim.Native.Nat.{ℕ, zero, suc, _+_, _-_, _*_, _/_, _%_, _≤_, _<_}
 use native.Mathlib.Numerals.{add-one}
 use native.Mathlib.Decide.{ℕ-discrete}
 use native.Mathlib.Omega.{arith}
@@ -16,7 +16,7 @@ use Rattle.model.specs.declared.Shape.{Shape}
 use Rattle.model.specs.Queue.{Queue}
 use Rattle.model.specs.Queue.Queue.{ready, park, lock, condition}
 use Rattle.model.proofs.Tests.{and-split}
-use Rattle.area.specs.Layout.{at, locksAt, conditionsAt, recordsAt}
+use Rattle.area.specs.Layout.{size, at, locksAt, conditionsAt, recordsAt}
 use Rattle.area.specs.Layout.Slot.{Tail, Holder}
 use Rattle.area.specs.Reading.{shapeOf}
 use Rattle.area.specs.Rings.{records}
@@ -212,34 +212,53 @@ module _ (ws : List ℕ) where
         go none = refl
         go (some is) = queued-visit m is ∙ sym (then-some (visit ws (queueAt k m) is))
 
-  -- ---- the words of a kind and the records, lent
+-- ---- the words of a kind and the records, lent
 
-  -- the area from a on, lent
-  abbrev from : ℕ → List ℕ
-  from a = midOf a (length ws - a) ws
+-- the counts that the words say
+pub counts-said : {n : Shape} (ws : List ℕ) → n ≡ shapeOf ws
+    → (n .processes ≡ getD ws 0 0) × (n .locks ≡ getD ws 1 0 / 256) × (n .conditions ≡ getD ws 1 0 % 256) × (n .parks ≡ getD ws 2 0 / 4096)
+counts-said ws e = rw e (refl, refl, refl, refl)
 
-  pub lent-runs : (b : Bool) → Decides b (Runs ws (from (recordsAt n)) (n .processes)) → Decides b (Runs ws (records n ws) (n .processes))
-  lent-runs b d = rw (part-lent (recordsAt n) ws) at d
+pub counted-long : {n : Shape} {ws : List ℕ} → n ≡ shapeOf ws → Counted ws → size n ≤ length ws
+counted-long e c = rw e (c .long)
 
-  pub lent-visits : (k : ℕ) → k ≤ 2 → (c m : ℕ) (ms js : List ℕ) → Told (n .processes) c ms (passed (from (begins n k)) (from (recordsAt n)) (n .processes) k m js) → Told (n .processes) c ms (visits ws (queuesOf k m) js)
-  lent-visits k h c m ms js t = rw (part-lent (begins n k) ws, part-lent (recordsAt n) ws, passed-visits k h m js) at t
+-- the words from a on, lent
+abbrev from : List ℕ → ℕ → List ℕ
+from ws a = midOf a (length ws - a) ws
+
+-- by the counts n that the words say, and the address r of the records
+module _ (ws : List ℕ) {n : Shape} (e : n ≡ shapeOf ws) {r : ℕ} (there : r ≡ recordsAt n) where
+  pub lent-runs : (b : Bool) → Decides b (Runs ws (from ws r) (n .processes)) → Decides b (Runs ws (records (shapeOf ws) ws) (getD ws 0 0))
+  lent-runs b d = rw (there, e, part-lent (recordsAt (shapeOf ws)) ws) at d
+
+  pub lent-visits : (k : ℕ) → k ≤ 2 → {a : ℕ} → a ≡ begins n k → (c₀ c : ℕ) (ms₀ ms : List ℕ)
+      → ((js : List ℕ) → Met (n .processes) ms₀ js c₀ → Told (n .processes) c ms (passed (from ws a) (from ws r) (n .processes) k (numberOf n k) js))
+      → (js : List ℕ) → Met (getD ws 0 0) ms₀ js c₀ → Told (getD ws 0 0) c ms (visits ws (queuesOf k (numberOf (shapeOf ws) k)) js)
+  lent-visits k h here c₀ c ms₀ ms t js T =
+      let u = rw (here, there, e, part-lent (begins (shapeOf ws) k) ws, part-lent (recordsAt (shapeOf ws)) ws) at t in
+      rw (passed-visits ws k h (numberOf (shapeOf ws) k) js) at (u js T)
 
   module _ (c : Counted ws) where
-    pub lent-records : 3 * n .processes ≤ length (from (recordsAt n))
-    lent-records = rw (part-lent (recordsAt n) ws, length-drop (recordsAt n) ws) (let l = c .long in omega arith)
+    pub lent-records : 3 * n .processes ≤ length (from ws r)
+    lent-records = rw (there, part-lent (recordsAt n) ws, length-drop (recordsAt n) ws) (let l = counted-long e c in omega arith)
 
-    module _ (small : Words ws) where
-      number-small : (k : ℕ) → numberOf n k < 1024
-      number-small zero = let p = c .parks in omega arith
-      number-small (suc zero) = let s = small 1 in omega arith
-      number-small (suc (suc k)) = omega arith
+    number-small : (k : ℕ) → Words ws → numberOf n k < 1024
+    number-small k small = rw e (go k)
+      where
+        go : (k : ℕ) → numberOf (shapeOf ws) k < 1024
+        go zero = let p = c .parks in omega arith
+        go (suc zero) = let s = small 1 in omega arith
+        go (suc (suc k)) = omega arith
 
-      heads-long : (k : ℕ) → k ≤ 2 → headAt k (numberOf n k) ≤ length ws - begins n k
-      unfolding headAt
-      heads-long zero h = let l = c .long in omega arith
-      heads-long (suc zero) h = let l = c .long in omega arith
-      heads-long (suc (suc zero)) h = let l = c .long in omega arith
-      heads-long (suc (suc (suc k))) h = absurd (omega arith)
+    heads-long : (k : ℕ) → k ≤ 2 → headAt k (numberOf n k) ≤ length ws - begins n k
+    unfolding headAt
+    heads-long zero h = let l = counted-long e c in omega arith
+    heads-long (suc zero) h = let l = counted-long e c in omega arith
+    heads-long (suc (suc zero)) h = let l = counted-long e c in omega arith
+    heads-long (suc (suc (suc k))) h = absurd (omega arith)
 
-      pub lent-within : (k : ℕ) → k ≤ 2 → (n .processes < 1024) × (3 * n .processes ≤ length (from (recordsAt n))) × (numberOf n k < 1024) × (headAt k (numberOf n k) ≤ length (from (begins n k)))
-      lent-within k h = (let p = c .processes in omega arith, lent-records, number-small k, rw (part-lent (begins n k) ws, length-drop (begins n k) ws) (heads-long k h))
+    pub lent-within : Words ws → (k : ℕ) → k ≤ 2 → {a : ℕ} → a ≡ begins n k
+        → (n .processes < 1024) × (3 * n .processes ≤ length (from ws r)) × (numberOf n k < 1024) × (headAt k (numberOf n k) ≤ length (from ws a))
+    lent-within small k h here =
+        let p : n .processes ≤ 1023 = rw e (c .processes) in
+        (omega arith, lent-records, number-small k small, rw (here, part-lent (begins n k) ws, length-drop (begins n k) ws) (heads-long k h))

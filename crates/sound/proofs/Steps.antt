@@ -2,7 +2,7 @@
 use Prim.Native.Nat.{ℕ, zero, suc, _+_, _-_, _*_, _/_, _%_, _≤_, _<_}
 use native.Mathlib.Decide.{ℕ-discrete}
 use native.Mathlib.Omega.{arith}
-use mathlib.Core.Path.{_≡_, refl}
+use mathlib.Core.Path.{_≡_, refl, sym, _∙_}
 use mathlib.Core.Bool.{Bool, true, false, not, _&&_, and-false}
 use mathlib.Core.List.{List, _∷_}
 use mathlib.Core.Option.{none, some}
@@ -95,6 +95,15 @@ module _ (P k w v : ℕ) where
           where
             both : eqb k 2 && eqb w 1 ≡ false
             both = elim (ℕ-discrete k 2) [ yes e ↦ rw (ne-eqb w 1 (n e), and-false) | no e ↦ rw (ne-eqb k 2 e) ]
+
+  -- an empty queue, whose other bits are 0 too
+  pub head-empty : w ≡ 0 → eqb v 0 ≡ heading P k w v
+  unfolding heading
+  head-empty z = go (ℕ-discrete v 0)
+    where
+      go : Dec (v ≡ 0) → eqb v 0 ≡ heading P k w v
+      go (yes d) = eq-eqb v 0 d ∙ (sym (eq-eqb (w % 8) 0 (omega arith)) ∙ head-plain (omega arith) (omega arith) (omega arith) d (λ e h. omega arith))
+      go (no n) = rw (ne-eqb v 0 n, ne-eqb (w % 8) 1 (omega arith), and-false, and-false, and-false)
 
 -- ---- where a queue's words stand
 

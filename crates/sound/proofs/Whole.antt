@@ -1,5 +1,5 @@
 -- What the check finds of a whole area is what makes it sound: from each clause of the one to each clause of the other, both ways. Assumes nothing.
-use Prim.Native.Nat.{ℕ, _+_, _/_, _%_, _≤_, _<_}
+use Prim.Native.Nat.{ℕ, _+_, _*_, _/_, _%_, _≤_, _<_}
 use native.Mathlib.Decide.{ℕ-discrete}
 use native.Mathlib.Omega.{arith}
 use mathlib.Core.Path.{_≡_, refl, sym, _∙_}
@@ -21,13 +21,13 @@ use Rattle.model.proofs.Tests.{Case, holds, fails, stops, same-case, eqb-yes, e
 use Rattle.model.proofs.Lists.{member-here, member-there}
 use Rattle.model.proofs.Places.{at-place, waiting-is}
 use Rattle.ring.specs.Ring.{lastOf, Linked}
-use Rattle.area.specs.Layout.{Slot, at, has}
-use Rattle.area.specs.Layout.Part.{kept, tail, locked, waiting}
+use Rattle.area.specs.Layout.{Slot, word, at, has}
+use Rattle.area.specs.Layout.Part.{kept, tail, next, locked, waiting}
 use Rattle.area.specs.Layout.Slot.{Processes, LocksConditions, Parks, Clock, Running, Tail, Holder, Link, Flags, Timer}
 use Rattle.area.specs.State.{last}
 use Rattle.area.specs.Reading.{shapeOf, partsOf, stateOf}
 use Rattle.area.specs.Rings.{records}
-use Rattle.area.specs.Sound.{Tidy, Sound}
+use Rattle.area.specs.Sound.{Sound}
 use Rattle.area.proofs.Rings.{last-member}
 use Rattle.area.proofs.States.{Words}
 use Rattle.sound.specs.Walk.{recordAt, linkIn, nextIn}
@@ -36,7 +36,7 @@ use Rattle.sound.proofs.Queues.{kindOf, tailWord, holderWord}
 use Rattle.sound.proofs.Tests.{Fits, Headed}
 use Rattle.sound.proofs.Chains.{Member, all-member, member-all}
 use Rattle.sound.proofs.Lists.{every, every-in, in-every}
-use Rattle.sound.proofs.Visits.{reading, total, Visited, link-word, flags-word, timer-word, tail-part, total-one, total-two, placeIn, place-in}
+use Rattle.sound.proofs.Visits.{reading, total, Visited, link-word, flags-word, timer-word, tail-part, next-part, total-one, total-two, placeIn, place-in}
 
 -- what the check finds
 pub record Whole (ws : List ℕ) : Type 0 where
@@ -105,10 +105,19 @@ no-condition (park k) e z = omega arith
 no-condition (lock l) e z = omega arith
 no-condition (condition c) e z = true≢false e
 
-flags-tidy : (k w f t : ℕ) → Fits k w f t → (f < 4) × (f % 2 ≡ 0) × (w % 4 ≡ 0)
-flags-tidy k w f t h = elim (ℕ-discrete k 2) [
-  | yes e ↦ let a = h .waits e in (omega arith, omega arith, omega arith)
-  | no n ↦ let a = h .idle n in (omega arith, omega arith, omega arith)
+-- the link and the flags of a member, and the word of a queue, are their parts
+record-tidy : (k w f t : ℕ) → w < 65536 → Fits k w f t → (w ≡ w / 8192 % 8 * 8192 + w / 8 % 1024 * 8 + w / 4 % 2 * 4) × (f ≡ f / 2 % 2 * 2)
+record-tidy k w f t s h =
+    let a : w % 8192 ≡ w / 8 % 1024 * 8 + w % 8 = omega arith in
+    elim (ℕ-discrete k 2) [
+      | yes e ↦ let b = h .waits e in (omega arith, omega arith)
+      | no n ↦ let b = h .idle n in (omega arith, omega arith)
+    ]
+
+head-tidy : (P k w v : ℕ) → P ≤ 1023 → Headed P k w v → w ≡ w / 8 % 1024 * 8 + w / 1 % 2
+head-tidy P k w v s h = let a = h .tail in elim (ℕ-discrete v 0) [
+  | yes e ↦ elim (ℕ-discrete k 2) [ yes d ↦ let b = h .wakes e d .0 in omega arith | no d ↦ let b = h .plain e d in omega arith ]
+  | no n ↦ let b = h .held n in omega arith
 ]
 
 -- ---- from what the check finds to a sound area
@@ -186,13 +195,17 @@ module _ (ws : List ℕ) (small : Words ws) (W : Whole ws) where
   own : (x : ℕ) → inside P x ≡ true → Fits (kindOf (place x)) (getD ws (at n (Link x)) 0) (getD ws (at n (Flags x)) 0) (getD ws (at n (Timer x)) 0)
   own x i = record-fits x (kindOf (place x)) (there x (place x) (at-place P (reading ws) place stands x (place x) i refl) .1 .fits)
 
-  next-small : (x : ℕ) → inside P x ≡ true → getD ws (at n (Link x)) 0 / 8 % 1024 ≤ P
-  next-small x i =
-      let q = place x in
-      let v = W .each q (placed x i .0) in
-      let m = at-place P (reading ws) place stands x q i refl in
-      let l : Linked (nextIn rs) (last (reading ws q)) (reading ws q) = rw (v .ring .ends) (v .ring .linked) in
-      rw (link-word ws x) at (inside-bounds P (nextIn rs x) (there (nextIn rs x) q (ring-next (nextIn rs) (reading ws q) l x m) .1 .within) .1)
+  nexts-at : (x : ℕ) → partsOf n ws (next x) ≤ P
+  nexts-at x = go (inside P x) refl
+    where
+      go : (b : Bool) → inside P x ≡ b → partsOf n ws (next x) ≤ P
+      go false i = rw i (omega arith)
+      go true i =
+          let q = place x in
+          let v = W .each q (placed x i .0) in
+          let m = at-place P (reading ws) place stands x q i refl in
+          let l : Linked (nextIn rs) (last (reading ws q)) (reading ws q) = rw (v .ring .ends) (v .ring .linked) in
+          rw (next-part ws x i) (inside-bounds P (nextIn rs x) (there (nextIn rs x) q (ring-next (nextIn rs) (reading ws q) l x m) .1 .within) .1)
 
   -- running
   run-word : (getD ws 4 0 / 8 ≤ P) × (getD ws 4 0 % 8 ≡ 0)
@@ -206,27 +219,27 @@ module _ (ws : List ℕ) (small : Words ws) (W : Whole ws) where
       let c = W .counts in let s = small 1 in
       rw (eqb-no P 0 (omega arith), leb-no 1024 P (omega arith), leb-no 256 (getD ws 1 0 / 256) (omega arith), leb-no 256 (getD ws 1 0 % 256) (omega arith), leb-no 9 (getD ws 2 0 / 4096) (omega arith))
 
-  tidy-at : (a : Slot) → has n a ≡ true → Tidy P a (getD ws (at n a) 0)
-  tidy-at Processes h = tt
-  tidy-at LocksConditions h = tt
-  tidy-at Parks h = W .counts .unnamed
-  tidy-at Clock h = tt
-  tidy-at Running h = record { range = run-word .0; low = omega (arith, run-word .1) }
-  tidy-at (Tail ready) h = let d = W .each ready refl .head in let l = d .plain refl (λ z. omega arith) in record { range = d .tail; low = omega arith }
-  tidy-at (Tail (park k)) h = let d = W .each (park k) h .head in let l = d .plain refl (λ z. omega arith) in record { range = d .tail; low = omega arith }
-  tidy-at (Tail (lock l)) h = record { range = d .tail; low = go (ℕ-discrete (holderWord ws (lock l)) 0) }
-    where
-      d : Headed P 1 (tailWord ws (lock l)) (holderWord ws (lock l))
-      d = W .each (lock l) h .head
+  tidy-at : (a : Slot) → has n a ≡ true → getD ws (at n a) 0 ≡ word n (partsOf n ws) a
+  tidy-at Processes h = refl
+  tidy-at LocksConditions h = omega arith
+  tidy-at Parks h = omega (arith, W .counts .unnamed)
+  tidy-at Clock h = omega (arith, small 3)
+  tidy-at Running h = omega (arith, run-word, most)
+  tidy-at (Tail ready) h = let d = W .each ready refl .head in omega (arith, d .plain refl (λ z. omega arith), d .tail, most)
+  tidy-at (Tail (park k)) h = let d = W .each (park k) h .head in rw h (omega (arith, d .plain refl (λ z. omega arith), d .tail, most))
+  tidy-at (Tail (lock l)) h = rw h (head-tidy _ _ _ _ most (W .each (lock l) h .head))
+  tidy-at (Tail (condition c)) h = rw h (head-tidy _ _ _ _ most (W .each (condition c) h .head))
+  tidy-at (Holder l) h = let d = W .each (lock l) h .head in rw h (omega (arith, d .whole, d .holder, most))
+  tidy-at (Link p) h = rw h (record-tidy _ _ _ _ (small (at n (Link p))) (own p h) .0)
+  tidy-at (Flags p) h = rw h (record-tidy _ _ _ _ (small (at n (Link p))) (own p h) .1)
+  tidy-at (Timer p) h = rw h (omega (arith, small (at n (Timer p))))
 
-      go : Dec (holderWord ws (lock l) ≡ 0) → tailWord ws (lock l) % 8 < 2
-      go (yes e) = let a = d .plain e (λ z. omega arith) in omega arith
-      go (no e) = let a = d .held e in omega arith
-  tidy-at (Tail (condition c)) h = let d = W .each (condition c) h .head in record { range = d .tail; low = d .wakes refl refl .0 }
-  tidy-at (Holder l) h = let d = W .each (lock l) h .head in let a = d .whole in record { range = d .holder; low = omega arith }
-  tidy-at (Link p) h = (next-small p h, flags-tidy _ _ _ _ (own p h) .2)
-  tidy-at (Flags p) h = let f = flags-tidy _ _ _ _ (own p h) in (f .0, f .1)
-  tidy-at (Timer p) h = tt
+  tails-at : (q : Queue) → partsOf n ws (tail q) ≤ P
+  tails-at q = go (exists n q) refl
+    where
+      go : (b : Bool) → exists n q ≡ b → partsOf n ws (tail q) ≤ P
+      go true h = let t = W .each q h .head .tail in rw (tail-part ws q h most t) t
+      go false h = rw h (omega arith)
 
   closed-at : (q : Queue) → last (reading ws q) ≡ partsOf n ws (tail q)
   closed-at q = go (exists n q) refl
@@ -345,6 +358,8 @@ module _ (ws : List ℕ) (small : Words ws) (W : Whole ws) where
   pub whole-sound : Sound ws
   whole-sound = record {
     long = W .counts .long;
+    tails = tails-at;
+    nexts = nexts-at;
     tidy = tidy-at;
     closed = closed-at;
     waits = waits-at;

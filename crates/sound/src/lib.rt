@@ -1,4 +1,5 @@
 // Whether an area is sound: one pass over the words of the queues, each ring walked as its word is met, each process marked as it is met. Assumes nothing.
+use area::layout;
 ghost use mathlib.Core.Path.{_≡_};
 ghost use mathlib.Core.Bool.{true};
 ghost use mathlib.Core.List.{List};
@@ -9,52 +10,12 @@ ghost use Rattle.sound.specs.Marks.{metIn, marked, Table};
 ghost use Rattle.sound.specs.Walk.{isFresh, fitting, ringed, heading, headAt, holderIn, passed, Met, Told};
 ghost use Rattle.sound.specs.Parts.{Decides, Counted, Runs};
 
-// Where the first words stand: the counts, running and the tail of ready; and how many words there are before the parks.
-const PROCESSES: usize = 0;
-
-const LOCKS_CONDITIONS: usize = 1;
-
-const PARKS: usize = 2;
-
-const RUNNING: usize = 4;
-
-const READY: usize = 5;
-
-const HEADER: usize = 6;
-
-// The words of a lock, and of a process's record.
-const LOCK_WORDS: usize = 2;
-
-const RECORD: usize = 3;
-
-// The most that there can be.
-const MOST_PROCESSES: u16 = 1023;
-
-const MOST_PARKS: usize = 8;
-
-// The numbers of locks and of parks count in steps of this many in their words; a process in its word, a next in its link.
-const LOCKS_UNIT: u16 = 256;
-
-const PARKS_UNIT: u16 = 4096;
-
-const PROCESS_UNIT: u16 = 8;
-
-// The failed bit of a link, the waiting bit of the flags, locked or wakeup in a queue's word.
-const FAILED: u16 = 4;
-
-const WAITING: u16 = 2;
-
-const SET: u16 = 1;
-
 // The kinds of queues: ready and the parks, the locks, the conditions.
 const PLAIN: u16 = 0;
 
 const LOCK: u16 = 1;
 
 const CONDITION: u16 = 2;
-
-// The priority that no process is above.
-const HIGHEST: u16 = 7;
 
 // The bits of a word of the table.
 const BITS: usize = 64;
@@ -111,10 +72,10 @@ fn fits(kind: u16, above: u16, link: u16, flags: u16, timer: u16) -> bool
         return false;
     }
     if kind == CONDITION {
-        if flags != WAITING {
+        if flags != layout::WAITING {
             return false;
         }
-        return link % PROCESS_UNIT == 0;
+        return link % ring::NUMBER == 0;
     }
     if flags != 0 {
         return false;
@@ -123,9 +84,9 @@ fn fits(kind: u16, above: u16, link: u16, flags: u16, timer: u16) -> bool
         return false;
     }
     if kind == LOCK {
-        return link % PROCESS_UNIT == FAILED;
+        return link % ring::NUMBER == layout::FAILED;
     }
-    link % FAILED == 0
+    link % layout::FAILED == 0
 }
 
 // Walks the ring of `tail` from its first and marks each process that it meets. The answer is how many are met by then, BROKEN if it is no such ring.
@@ -144,17 +105,23 @@ fn walk(
     if tail == 0 {
         return count;
     }
-    let last = (tail - 1) * RECORD;
+    let last = (tail - 1) * ring::RECORD;
     let mut p = ring::next_field(records[last]) as usize;
-    let mut above = HIGHEST;
+    let mut above = layout::HIGHEST;
     let mut found = count;
     while found < processes {
         if !fresh(processes, holder, p, marks) {
             return BROKEN;
         }
-        let at = (p - 1) * RECORD;
+        let at = (p - 1) * ring::RECORD;
         let link = records[at];
-        if !fits(kind, above, link, records[at + 1], records[at + 2]) {
+        if !fits(
+            kind,
+            above,
+            link,
+            records[at + layout::FLAGS],
+            records[at + layout::TIMER],
+        ) {
             return BROKEN;
         }
         mark(marks, p);
@@ -174,25 +141,29 @@ fn walk(
 fn in_order(processes: u16, kind: u16, w: u16, v: u16) -> bool
     ensures { λ r. ⌜ r ≡ heading processes kind w v ⌝ }
 {
-    if processes < w / PROCESS_UNIT {
+    // most queues are empty
+    if w == 0 {
+        return v == 0;
+    }
+    if processes < w / ring::NUMBER {
         return false;
     }
-    if processes < v / PROCESS_UNIT {
+    if processes < v / ring::NUMBER {
         return false;
     }
-    if v % PROCESS_UNIT != 0 {
+    if v % ring::NUMBER != 0 {
         return false;
     }
     if v != 0 {
-        return w % PROCESS_UNIT == SET;
+        return w % ring::NUMBER == layout::LOCKED;
     }
     if kind == CONDITION {
-        if w == SET {
+        if w == layout::WAKEUP {
             return true;
         }
-        return w % PROCESS_UNIT == 0;
+        return w % ring::NUMBER == 0;
     }
-    w % PROCESS_UNIT == 0
+    w % ring::NUMBER == 0
 }
 
 // Where the words of queue i of this kind stand, among those of the kind.
@@ -201,7 +172,7 @@ fn head_at(kind: u16, i: usize) -> usize
     ensures { λ r. ⌜ r ≡ headAt kind i ⌝ }
 {
     if kind == LOCK {
-        return i * LOCK_WORDS;
+        return i * layout::LOCK;
     }
     i
 }
@@ -212,7 +183,7 @@ fn holder_word(heads: &[u16], kind: u16, at: usize) -> u16
     ensures { λ r. ⌜ r ≡ holderIn (now (heads .entry)) kind at ⌝ }
 {
     if kind == LOCK {
-        return heads[at + 1];
+        return heads[at + layout::HOLDER];
     }
     0
 }
@@ -243,8 +214,8 @@ fn rings(
             records,
             processes as usize,
             kind,
-            (v / PROCESS_UNIT) as usize,
-            (w / PROCESS_UNIT) as usize,
+            (v / ring::NUMBER) as usize,
+            (w / ring::NUMBER) as usize,
             found,
             marks,
         );
@@ -262,30 +233,24 @@ fn rings(
 fn counted(area: &[u16]) -> bool
     ensures { λ r. ⌜ Decides r (Counted (now (area .entry))) ⌝ }
 {
-    if area.len() < HEADER {
+    if area.len() < layout::HEAD {
         return false;
     }
-    let processes = area[PROCESSES];
-    if processes == 0 {
+    let shape = area::shape_of(area);
+    if shape.processes == 0 {
         return false;
     }
-    if MOST_PROCESSES < processes {
+    if layout::MOST_PROCESSES < shape.processes {
         return false;
     }
-    let third = area[PARKS];
-    let unnamed = third % PARKS_UNIT;
+    if layout::MOST_PARKS < shape.parks {
+        return false;
+    }
+    let unnamed = area[layout::PARKS] % layout::PARKS_UNIT;
     if unnamed != 0 {
         return false;
     }
-    let parks = (third / PARKS_UNIT) as usize;
-    if MOST_PARKS < parks {
-        return false;
-    }
-    let second = area[LOCKS_CONDITIONS];
-    let locks = (second / LOCKS_UNIT) as usize;
-    let conditions = (second % LOCKS_UNIT) as usize;
-    let size = HEADER + parks + LOCK_WORDS * locks + conditions + RECORD * processes as usize;
-    if area.len() < size {
+    if area.len() < area::size_of(shape) {
         return false;
     }
     true
@@ -296,8 +261,8 @@ fn runs(area: &[u16], records: &[u16], processes: u16) -> bool
     requires { ⌜ (6 ≤ length (now area)) × (3 * processes ≤ length (now records)) ⌝ }
     ensures { λ r. ⌜ Decides r (Runs (now (area .entry)) (now (records .entry)) processes) ⌝ }
 {
-    let w = area[RUNNING];
-    let tail = area[READY] / PROCESS_UNIT;
+    let w = area[layout::RUNNING];
+    let tail = area[layout::READY] / ring::NUMBER;
     if tail == 0 {
         if w != 0 {
             return false;
@@ -307,7 +272,7 @@ fn runs(area: &[u16], records: &[u16], processes: u16) -> bool
     if processes < tail {
         return false;
     }
-    let last = (tail as usize - 1) * RECORD;
+    let last = (tail as usize - 1) * ring::RECORD;
     let first = ring::next_field(records[last]);
     if first == 0 {
         return false;
@@ -315,11 +280,11 @@ fn runs(area: &[u16], records: &[u16], processes: u16) -> bool
     if processes < first {
         return false;
     }
-    if w != first * PROCESS_UNIT {
+    if w != first * ring::NUMBER {
         return false;
     }
-    let at = (first as usize - 1) * RECORD;
-    let failed = records[at] / FAILED % 2;
+    let at = (first as usize - 1) * ring::RECORD;
+    let failed = records[at] / layout::FAILED % 2;
     if failed != 0 {
         return false;
     }
@@ -333,51 +298,47 @@ pub fn sound(area: &[u16]) -> bool
     if !counted(area) {
         return false;
     }
-    let processes = area[PROCESSES];
-    let parks = (area[PARKS] / PARKS_UNIT) as usize;
-    let second = area[LOCKS_CONDITIONS];
-    let locks = (second / LOCKS_UNIT) as usize;
-    let conditions = (second % LOCKS_UNIT) as usize;
-    let first_lock = HEADER + parks;
-    let first_condition = first_lock + LOCK_WORDS * locks;
-    let first_record = first_condition + conditions;
+    let shape = area::shape_of(area);
+    let first_record = area::records_at(shape);
     let records = &area[first_record..];
-    if !runs(area, records, processes) {
+    if !runs(area, records, shape.processes) {
         return false;
     }
     let mut marks = [0u64; 16];
     let plain = rings(
-        &area[READY..],
+        &area[layout::READY..],
         records,
-        processes,
+        shape.processes,
         PLAIN,
-        1 + parks,
+        1 + shape.parks as usize,
         0,
         &mut marks,
     );
     if plain == BROKEN {
         return false;
     }
+    let first_lock = area::locks_at(shape);
     let blocked = rings(
         &area[first_lock..],
         records,
-        processes,
+        shape.processes,
         LOCK,
-        locks,
+        shape.locks as usize,
         plain,
         &mut marks,
     );
     if blocked == BROKEN {
         return false;
     }
+    let first_condition = area::conditions_at(shape);
     let all = rings(
         &area[first_condition..],
         records,
-        processes,
+        shape.processes,
         CONDITION,
-        conditions,
+        shape.conditions as usize,
         blocked,
         &mut marks,
     );
-    all == processes as usize
+    all == shape.processes as usize
 }

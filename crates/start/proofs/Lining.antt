@@ -25,7 +25,7 @@ use Rattle.model.proofs.Loops.{start-others, start-ready}
 use Rattle.ring.specs.Link as link
 use Rattle.ring.specs.Link.{slot}
 use Rattle.ring.specs.Ring.{Linked, Ring}
-use Rattle.start.specs.Bands.{Ranked, Gathered}
+use Rattle.ring.specs.Bands.{Ranked, Gathered}
 use Rattle.ring.proofs.Rings.{ring-tail-small}
 use Rattle.area.specs.Layout.{Slot, word, recordsAt, size, at, has, Image}
 use Rattle.area.specs.Layout.Part.{waiting}

@@ -1,7 +1,8 @@
-// Start: the area is written anew, and every process comes into ready. Assumes nothing.
-use area::answers;
+// Start: the area is written anew, and every process comes into ready, linked there by ring. Assumes nothing.
+use area::layout;
 use model::Answer;
 use model::Shape;
+use moves::answers;
 ghost use mathlib.Core.Path.{_≡_};
 ghost use mathlib.Core.Bool.{true};
 ghost use mathlib.Core.List.{[]};
@@ -14,20 +15,6 @@ ghost use Rattle.area.specs.State.{laid};
 ghost use Rattle.area.specs.Holds.{Becomes};
 ghost use Rattle.start.specs.Start.{Starts, lined};
 
-mod bands;
-
-// The words of a record.
-const RECORD: usize = 3;
-
-// Where the tail of ready stands.
-const READY: usize = 5;
-
-// A process number counts in steps of this many.
-const PROCESS_UNIT: u16 = 8;
-
-// The highest priority.
-const HIGHEST: u16 = 7;
-
 // ---- codes
 
 // Whether the counts are in range.
@@ -37,16 +24,16 @@ fn in_range(shape: Shape) -> bool
     if shape.processes == 0 {
         return false;
     }
-    if shape.processes > 1023 {
+    if shape.processes > layout::MOST_PROCESSES {
         return false;
     }
-    if shape.locks > 255 {
+    if shape.locks > layout::MOST_LOCKS {
         return false;
     }
-    if shape.conditions > 255 {
+    if shape.conditions > layout::MOST_CONDITIONS {
         return false;
     }
-    shape.parks <= 8
+    shape.parks <= layout::MOST_PARKS
 }
 
 // A byte as a word.
@@ -62,7 +49,7 @@ fn one_above(priorities: &[u8]) -> bool
 {
     let mut i: usize = 0;
     while i < priorities.len() {
-        if wide(priorities[i]) > HIGHEST {
+        if wide(priorities[i]) > layout::HIGHEST {
             return true;
         }
         i += 1;
@@ -86,13 +73,6 @@ fn code_of(shape: Shape, priorities: &[u8]) -> u16
     0
 }
 
-// How many words the area takes.
-fn size_of(shape: Shape) -> usize
-    ensures { λ r. ⌜ r ≡ size shape ⌝ }
-{
-    area::records_at(shape) + RECORD * shape.processes as usize
-}
-
 // ---- words
 
 // So many words of the area become 0.
@@ -112,10 +92,10 @@ fn count_out(area: &mut [u16], shape: Shape)
     requires { ⌜ (counted shape ≡ true) × (size shape ≤ length (now area)) ⌝ }
     ensures { λ _. ⌜ Stored shape (now (area .entry)) (now (area .exit)) (laid shape (lined [] 0)) ⌝ }
 {
-    clear(area, size_of(shape));
-    area[0] = shape.processes;
-    area[1] = shape.locks * 256 + shape.conditions;
-    area[2] = shape.parks * 4096;
+    clear(area, area::size_of(shape));
+    area[layout::PROCESSES] = shape.processes;
+    area[layout::LOCKS_CONDITIONS] = shape.locks * layout::LOCKS_UNIT + shape.conditions;
+    area[layout::PARKS] = shape.parks * layout::PARKS_UNIT;
 }
 
 // Every process takes its priority and comes into ready, 1 first.
@@ -125,8 +105,8 @@ fn line_up(area: &mut [u16], shape: Shape, priorities: &[u8])
     ensures { λ _. ⌜ Becomes shape (now (area .entry)) (now (area .exit)) (lined (now (priorities .entry)) (shape .processes)) ⌝ }
 {
     let at = area::records_at(shape);
-    let tail = bands::gather(&mut area[at..], priorities);
-    area[READY] = tail * PROCESS_UNIT;
+    let tail = ring::bands::gather(&mut area[at..], priorities);
+    area[layout::READY] = tail * ring::NUMBER;
 }
 
 // ---- Start
@@ -138,7 +118,7 @@ pub fn start(area: &mut [u16], shape: Shape, priorities: &[u8]) -> Answer
     if code != 0 {
         return answers::refusal(code);
     }
-    if area.len() < size_of(shape) {
+    if area.len() < area::size_of(shape) {
         return answers::refusal(5);
     }
     count_out(area, shape);

@@ -27,7 +27,7 @@ use Rattle.area.specs.Holds.{Holds, Becomes, with, Gives}
 use Rattle.area.proofs.Puts.{becomes-none, becomes-then}
 use Rattle.area.proofs.Rings.{member-inside}
 use Rattle.area.specs.Calls.{Does}
-use Rattle.area.proofs.Outcomes.{accepts}
+use Rattle.moves.proofs.Outcomes.{accepts}
 use Rattle.wakes.proofs.Waking.{woken, woken-snoc}
 
 -- ---- the conditions, one after the other

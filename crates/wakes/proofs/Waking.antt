@@ -1,23 +1,24 @@
 -- Waking: what Notify, Broadcast and Naked come to by their tests, and processes that wake one after the other. A process that wakes from a
 -- condition was not in ready, so it arrives there. Assumes nothing.
-use Prim.Native.Nat.{ℕ, _+_, _≤_, _<_}
+use Prim.Native.Nat.{ℕ, _+_, _≤_}
 use native.Mathlib.Omega.{arith}
 use mathlib.Core.Path.{_≡_, refl, sym, ap, _∙_}
 use mathlib.Core.Bool.{true}
-use mathlib.Core.Logic.{_≢_, _⊎_}
+use mathlib.Core.Logic.{_≢_}
 use mathlib.Core.List.{List, [], _∷_, _++_, append-nil, append-assoc}
+use lib.Dec.{eqb}
 use lib.ListN.{length, length-append}
 use Rattle.model.specs.declared.Shape.{Shape}
 use Rattle.model.specs.declared.Answer.{Answer}
 use Rattle.model.specs.declared.Call.the-variants.{Notify, Broadcast, Naked}
-use Rattle.model.specs.Queue.{inside, member, first, firstOnly, toReady}
+use Rattle.model.specs.Queue.{outside, inside, member, first, firstOnly, toReady}
 use Rattle.model.specs.Queue.Queue.{ready, condition}
 use Rattle.model.specs.Field.{Fields, put, priorities}
 use Rattle.model.specs.Field.Field.{running, timer, wakeup}
-use Rattle.model.specs.Rules.{calm, wake, nakedly, decide}
-use Rattle.model.specs.Rules.Effect.{refuse, accept}
+use Rattle.model.specs.Rules.{unless, calm, wake, nakedly, decide}
+use Rattle.model.specs.Rules.Effect.{accept}
 use Rattle.model.specs.Machine.{State, model, moves, arrivals, finish, refusal}
-use Rattle.model.proofs.Tests.{eqb-yes, eqb-no}
+use Rattle.model.proofs.Tests.{eqb-no}
 use Rattle.model.proofs.Lists.{first-member}
 use Rattle.model.proofs.Places.{moves-append, toReady-append, queue-length}
 use Rattle.model.proofs.Loops.{emptying, queue-moved, first-moved}
@@ -25,41 +26,36 @@ use Rattle.area.specs.Layout.{at}
 use Rattle.area.specs.Holds.{Holds, Becomes, Gives}
 use Rattle.area.proofs.Puts.{becomes-none, becomes-then}
 use Rattle.area.proofs.Whole.{counts-in}
-use Rattle.area.specs.Calls.{Does, changed}
-use Rattle.area.proofs.Numbers.{is-outside, not-outside, first-only, no-first, member-some, nobody-first}
-use Rattle.area.proofs.Outcomes.{unless-yes, unless-no, refuses, accepts}
+use Rattle.area.specs.Calls.{Does, Missing, Calling, changed}
+use Rattle.moves.proofs.Numbers.{not-outside, first-only, no-first, member-some, nobody-first}
+use Rattle.moves.proofs.Outcomes.{unless-no, Tested, missing-tested, calling-tested, refuses-by, accepts}
 
--- ---- the rules
+-- ---- the rules, with r the running process and k the code of the tests on the numbers
 
 module _ {n : Shape} {old : List ℕ} {s : State model} (H : Holds n old s) (c : ℕ) where
-  module _ {r : ℕ} (runs : r ≡ s .fields running) where
-    notify-6 : r ≡ 0 → decide n (s .fields) (s .queues) (Notify c) ≡ refuse 6
-    unfolding decide
-    notify-6 z = unless-yes 6 _ (eqb-yes (s .fields running) 0 (sym runs ∙ z))
+  module _ {r k : ℕ} (runs : r ≡ s .fields running) (ek : Calling r (n .conditions) c k) where
+    tested : Tested k (λ e. unless (eqb (s .fields running) 0) 6 (unless (outside (n .conditions) c) 7 e))
+    tested = rw (← runs) (calling-tested ek)
 
-    notify-7 : r ≢ 0 → (c ≡ 0) ⊎ (n .conditions < c) → decide n (s .fields) (s .queues) (Notify c) ≡ refuse 7
+    pub notify-refused : {a : Answer} → k ≢ 0 → a ≡ refusal k → Does (Notify c) n old old s a
     unfolding decide
-    notify-7 z o = unless-no 6 _ (eqb-no (s .fields running) 0 (λ e. z (runs ∙ e))) ∙ unless-yes 7 _ (is-outside (n .conditions) c o)
+    notify-refused = refuses-by H (Notify c) _ refl tested
 
-    notify-0 : r ≢ 0 → inside (n .conditions) c ≡ true → decide n (s .fields) (s .queues) (Notify c) ≡ wake (firstOnly (s .queues (condition c))) (s .fields)
+    pub broadcast-refused : {a : Answer} → k ≢ 0 → a ≡ refusal k → Does (Broadcast c) n old old s a
     unfolding decide
-    notify-0 z i = unless-no 6 _ (eqb-no (s .fields running) 0 (λ e. z (runs ∙ e))) ∙ unless-no 7 _ (not-outside (n .conditions) c i)
+    broadcast-refused = refuses-by H (Broadcast c) _ refl tested
 
-    broadcast-6 : r ≡ 0 → decide n (s .fields) (s .queues) (Broadcast c) ≡ refuse 6
+    broadcast-0 : k ≡ 0 → decide n (s .fields) (s .queues) (Broadcast c) ≡ wake (s .queues (condition c)) (s .fields)
     unfolding decide
-    broadcast-6 z = unless-yes 6 _ (eqb-yes (s .fields running) 0 (sym runs ∙ z))
+    broadcast-0 z = tested .passed z _
 
-    broadcast-7 : r ≢ 0 → (c ≡ 0) ⊎ (n .conditions < c) → decide n (s .fields) (s .queues) (Broadcast c) ≡ refuse 7
-    unfolding decide
-    broadcast-7 z o = unless-no 6 _ (eqb-no (s .fields running) 0 (λ e. z (runs ∙ e))) ∙ unless-yes 7 _ (is-outside (n .conditions) c o)
-
-    broadcast-0 : r ≢ 0 → inside (n .conditions) c ≡ true → decide n (s .fields) (s .queues) (Broadcast c) ≡ wake (s .queues (condition c)) (s .fields)
-    unfolding decide
-    broadcast-0 z i = unless-no 6 _ (eqb-no (s .fields running) 0 (λ e. z (runs ∙ e))) ∙ unless-no 7 _ (not-outside (n .conditions) c i)
-
-  naked-7 : (c ≡ 0) ⊎ (n .conditions < c) → decide n (s .fields) (s .queues) (Naked c) ≡ refuse 7
+  notify-0 : s .fields running ≢ 0 → inside (n .conditions) c ≡ true → decide n (s .fields) (s .queues) (Notify c) ≡ wake (firstOnly (s .queues (condition c))) (s .fields)
   unfolding decide
-  naked-7 o = unless-yes 7 _ (is-outside (n .conditions) c o)
+  notify-0 z i = unless-no 6 _ (eqb-no (s .fields running) 0 z) ∙ unless-no 7 _ (not-outside (n .conditions) c i)
+
+  pub naked-refused : {k : ℕ} {a : Answer} → Missing (n .conditions) c k → k ≢ 0 → a ≡ refusal k → Does (Naked c) n old old s a
+  unfolding decide
+  naked-refused ek = refuses-by H (Naked c) _ refl (missing-tested ek)
 
   naked-0 : inside (n .conditions) c ≡ true → decide n (s .fields) (s .queues) (Naked c) ≡ nakedly c (s .queues (condition c)) (s .fields)
   unfolding decide
@@ -88,42 +84,26 @@ module _ {n : Shape} {old : List ℕ} {s : State model} (H : Holds n old s) (c :
 
 -- ---- the calls
 
-module _ {n : Shape} {old : List ℕ} {s : State model} (H : Holds n old s) (c : ℕ) {r : ℕ} (runs : r ≡ s .fields running) {a : Answer} where
-  pub notify-idle : r ≡ 0 → a ≡ refusal 6 → Does (Notify c) n old old s a
-  notify-idle z e = refuses H (Notify c) 6 (notify-6 H c runs z) e
-
-  pub notify-none : r ≢ 0 → (c ≡ 0) ⊎ (n .conditions < c) → a ≡ refusal 7 → Does (Notify c) n old old s a
-  notify-none z o e = refuses H (Notify c) 7 (notify-7 H c runs z o) e
-
-  pub broadcast-idle : r ≡ 0 → a ≡ refusal 6 → Does (Broadcast c) n old old s a
-  broadcast-idle z e = refuses H (Broadcast c) 6 (broadcast-6 H c runs z) e
-
-  pub broadcast-none : r ≢ 0 → (c ≡ 0) ⊎ (n .conditions < c) → a ≡ refusal 7 → Does (Broadcast c) n old old s a
-  broadcast-none z o e = refuses H (Broadcast c) 7 (broadcast-7 H c runs z o) e
-
+module _ {n : Shape} {old : List ℕ} {s : State model} (H : Holds n old s) (c : ℕ) {a : Answer} where
   -- nobody waits there, or the first wakes
-  pub notify-nobody : {f : ℕ} {new : List ℕ} → r ≢ 0 → inside (n .conditions) c ≡ true → f ≡ first (s .queues (condition c)) → f ≡ 0
+  pub notify-nobody : {f : ℕ} {new : List ℕ} → s .fields running ≢ 0 → inside (n .conditions) c ≡ true → f ≡ first (s .queues (condition c)) → f ≡ 0
       → Gives n old new a (finish model (s .fields) (s .queues) 0 0) → Does (Notify c) n old new s a
   notify-nobody z i e k g =
-      accepts H (Notify c) (s .fields) [] 0 0 (notify-0 H c runs z i ∙ ap (λ xs. wake (firstOnly xs) (s .fields)) (nobody-first H (condition c) e k)) refl (becomes-none H) g
+      accepts H (Notify c) (s .fields) [] 0 0 (notify-0 H c z i ∙ ap (λ xs. wake (firstOnly xs) (s .fields)) (nobody-first H (condition c) e k)) refl (becomes-none H) g
 
-  pub notify-first : {f : ℕ} {mid new : List ℕ} → r ≢ 0 → inside (n .conditions) c ≡ true → f ≡ first (s .queues (condition c)) → f ≢ 0
+  pub notify-first : {f : ℕ} {mid new : List ℕ} → s .fields running ≢ 0 → inside (n .conditions) c ≡ true → f ≡ first (s .queues (condition c)) → f ≢ 0
       → Becomes n old mid (changed (put (timer f) 0 (s .fields)) ((f, ready) ∷ []) s)
       → Gives n mid new a (finish model (put (timer f) 0 (s .fields)) (moves model (priorities (s .fields)) (s .queues) ((f, ready) ∷ [])) 0 1) → Does (Notify c) n old new s a
   notify-first {f} z i e k b g =
-      accepts H (Notify c) (put (timer f) 0 (s .fields)) ((f, ready) ∷ []) 0 1 (notify-0 H c runs z i ∙ ap (λ xs. wake xs (s .fields)) (first-only (s .queues (condition c)) e k)) (one-arrives H c e k) b g
+      accepts H (Notify c) (put (timer f) 0 (s .fields)) ((f, ready) ∷ []) 0 1 (notify-0 H c z i ∙ ap (λ xs. wake xs (s .fields)) (first-only (s .queues (condition c)) e k)) (one-arrives H c e k) b g
 
   -- all wake
-  pub broadcast-all : {m : ℕ} {mid new : List ℕ} → r ≢ 0 → inside (n .conditions) c ≡ true → m ≡ length (s .queues (condition c))
+  pub broadcast-all : {r k m : ℕ} {mid new : List ℕ} → r ≡ s .fields running → Calling r (n .conditions) c k → k ≡ 0 → m ≡ length (s .queues (condition c))
       → Becomes n old mid (changed (calm (s .queues (condition c)) (s .fields)) (toReady (s .queues (condition c))) s)
       → Gives n mid new a (finish model (calm (s .queues (condition c)) (s .fields)) (moves model (priorities (calm (s .queues (condition c)) (s .fields))) (s .queues) (toReady (s .queues (condition c)))) 0 m)
       → Does (Broadcast c) n old new s a
-  broadcast-all {m} z i e b g =
-      accepts H (Broadcast c) (calm (s .queues (condition c)) (s .fields)) (toReady (s .queues (condition c))) 0 m (broadcast-0 H c runs z i) (e ∙ sym (all-arrive H c)) b g
-
-module _ {n : Shape} {old : List ℕ} {s : State model} (H : Holds n old s) (c : ℕ) {a : Answer} where
-  pub naked-none : (c ≡ 0) ⊎ (n .conditions < c) → a ≡ refusal 7 → Does (Naked c) n old old s a
-  naked-none o e = refuses H (Naked c) 7 (naked-7 H c o) e
+  broadcast-all {m = m} runs ek z e b g =
+      accepts H (Broadcast c) (calm (s .queues (condition c)) (s .fields)) (toReady (s .queues (condition c))) 0 m (broadcast-0 H c runs ek z) (e ∙ sym (all-arrive H c)) b g
 
   -- nobody waits there, and the wakeup is set; or the first wakes
   pub naked-nobody : {f : ℕ} {mid new : List ℕ} → inside (n .conditions) c ≡ true → f ≡ first (s .queues (condition c)) → f ≡ 0

@@ -1,8 +1,9 @@
 // The clock: Tick. Assumes nothing.
 use crate::wake;
-use area::answers;
+use area::places;
 use model::Answer;
 use model::Shape;
+use moves::answers;
 ghost use mathlib.Core.Path.{_≡_};
 ghost use mathlib.Core.Bool.{true};
 ghost use mathlib.Core.List.{[], _∷_};
@@ -50,7 +51,7 @@ fn wake_due(area: &mut [u16], shape: Shape, time: u16) -> u16
     let mut p: u16 = 0;
     while p < processes {
         p += 1;
-        if area::timer_of(area, shape, p) == time {
+        if area::get(area, places::timer(shape, p)) == time {
             rouse(area, shape, p);
             moved += 1;
         }
@@ -62,9 +63,9 @@ pub fn tick(area: &mut [u16], shape: Shape) -> Answer
     requires { ⌜ Stands shape (now area) ⌝ }
     ensures { λ r. ⌜ ((s : State model) → Holds shape (now (area .entry)) s → Valid shape s → Does Tick shape (now (area .entry)) (now (area .exit)) s r) ⌝ }
 {
-    let before = area::clock_of(area);
+    let before = area::get(area, places::clock());
     let time = std::num::wrapping_add_u16(before, 1);
-    area::set_clock(area, time);
+    area::put(area, places::clock(), time);
     let moved = wake_due(area, shape, time);
     answers::finish(area, shape, 0, moved)
 }

@@ -1,7 +1,9 @@
 // Waking from a condition, on an area that holds a valid state: Notify, Broadcast and Naked here, Tick in clock. Assumes nothing.
-use area::answers;
+use area::places;
 use model::Answer;
 use model::Shape;
+use moves::answers;
+use moves::codes;
 ghost use mathlib.Core.Path.{_≡_};
 ghost use mathlib.Core.Logic.{_≢_};
 ghost use mathlib.Core.Bool.{true, false};
@@ -29,10 +31,10 @@ fn wake(area: &mut [u16], shape: Shape, from: usize, p: u16) -> bool
     ensures { λ r. ⌜ ((s : State model) (q : Queue) → Holds shape (now (area .entry)) s → exists shape q ≡ true → from ≡ at shape (Tail q) → Tried (member p (s .queues q)) r (now (area .entry)) (now (area .exit)) (Becomes shape (now (area .entry)) (now (area .exit)) (changed (put (timer p) 0 (s .fields)) ((p, ready) ∷ []) s))) ⌝ }
 {
     let to = area::ready_at();
-    if !area::send(area, shape, from, to, p, 0) {
+    if !moves::send(area, shape, from, to, p, 0) {
         return false;
     }
-    area::set_timer(area, shape, p, 0);
+    area::put(area, places::timer(shape, p), 0);
     true
 }
 
@@ -43,13 +45,13 @@ fn signal(area: &mut [u16], shape: Shape, condition: u16, device: bool) -> Answe
     ensures { λ r. ⌜ ((s : State model) → Holds shape (now (area .entry)) s → (device ≡ true → Does (Naked condition) shape (now (area .entry)) (now (area .exit)) s r) × (device ≡ false → s .fields running ≢ 0 → Does (Notify condition) shape (now (area .entry)) (now (area .exit)) s r)) ⌝ }
 {
     let from = area::condition_at(shape, condition);
-    let first = area::first_in(area, shape, from);
+    let first = moves::first_in(area, shape, from);
     if first != 0 {
         wake(area, shape, from, first);
         return answers::finish(area, shape, 0, 1);
     }
     if device {
-        area::set_wakeup(area, shape, condition, 1);
+        area::put(area, places::wakeup(shape, condition), 1);
         return answers::finish(area, shape, 1, 0);
     }
     answers::finish(area, shape, 0, 0)
@@ -59,15 +61,10 @@ pub fn notify(area: &mut [u16], shape: Shape, condition: u16) -> Answer
     requires { ⌜ Stands shape (now area) ⌝ }
     ensures { λ r. ⌜ ((s : State model) → Holds shape (now (area .entry)) s → Valid shape s → Does (Notify condition) shape (now (area .entry)) (now (area .exit)) s r) ⌝ }
 {
-    let running = area::running_of(area);
-    if running == 0 {
-        return answers::refusal(6);
-    }
-    if condition == 0 {
-        return answers::refusal(7);
-    }
-    if shape.conditions < condition {
-        return answers::refusal(7);
+    let running = area::get(area, places::running());
+    let code = codes::calling(running, shape.conditions, condition);
+    if code != 0 {
+        return answers::refusal(code);
     }
     signal(area, shape, condition, false)
 }
@@ -78,11 +75,11 @@ fn wake_all(area: &mut [u16], shape: Shape, from: usize) -> u16
     ensures { λ r. ⌜ ((s : State model) (c : ℕ) → Holds shape (now (area .entry)) s → inside (shape .conditions) c ≡ true → from ≡ at shape (Tail (Queue.condition c)) → (r ≡ length (s .queues (Queue.condition c))) × Becomes shape (now (area .entry)) (now (area .exit)) (changed (calm (s .queues (Queue.condition c)) (s .fields)) (toReady (s .queues (Queue.condition c))) s)) ⌝ }
 {
     let mut moved: u16 = 0;
-    let mut first = area::first_in(area, shape, from);
+    let mut first = moves::first_in(area, shape, from);
     while first != 0 {
         wake(area, shape, from, first);
         moved += 1;
-        first = area::first_in(area, shape, from);
+        first = moves::first_in(area, shape, from);
     }
     moved
 }
@@ -91,15 +88,10 @@ pub fn broadcast(area: &mut [u16], shape: Shape, condition: u16) -> Answer
     requires { ⌜ Stands shape (now area) ⌝ }
     ensures { λ r. ⌜ ((s : State model) → Holds shape (now (area .entry)) s → Valid shape s → Does (Broadcast condition) shape (now (area .entry)) (now (area .exit)) s r) ⌝ }
 {
-    let running = area::running_of(area);
-    if running == 0 {
-        return answers::refusal(6);
-    }
-    if condition == 0 {
-        return answers::refusal(7);
-    }
-    if shape.conditions < condition {
-        return answers::refusal(7);
+    let running = area::get(area, places::running());
+    let code = codes::calling(running, shape.conditions, condition);
+    if code != 0 {
+        return answers::refusal(code);
     }
     let from = area::condition_at(shape, condition);
     let moved = wake_all(area, shape, from);
@@ -110,11 +102,9 @@ pub fn naked(area: &mut [u16], shape: Shape, condition: u16) -> Answer
     requires { ⌜ Stands shape (now area) ⌝ }
     ensures { λ r. ⌜ ((s : State model) → Holds shape (now (area .entry)) s → Valid shape s → Does (Naked condition) shape (now (area .entry)) (now (area .exit)) s r) ⌝ }
 {
-    if condition == 0 {
-        return answers::refusal(7);
-    }
-    if shape.conditions < condition {
-        return answers::refusal(7);
+    let code = codes::missing(shape.conditions, condition);
+    if code != 0 {
+        return answers::refusal(code);
     }
     signal(area, shape, condition, true)
 }

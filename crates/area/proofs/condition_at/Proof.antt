@@ -4,39 +4,17 @@ use borrow.Author.Needs.{needs}
 use Rattle.area.proofs.condition_at.Statement.{statement}
 use Rattle.area.proofs.condition_at.Tie as tie
 
-cast-result : tie.Need-cast-result
-cast-result c = search needs
+conditions-at-requires : tie.Need-conditions-at-requires
+conditions-at-requires c κs = search needs
+
+sub-result : tie.Need-sub-result
+sub-result c = inside-bounds (c .before .args .shape .conditions) (c .before .args .c) (c .before .pre) .0
 
 add-result : tie.Need-add-result
 add-result c = search needs
-
-cast-result-2 : tie.Need-cast-result-2
-cast-result-2 c = search needs
-
-mul-result : tie.Need-mul-result
-mul-result c = search needs
-
-add-result-2 : tie.Need-add-result-2
-add-result-2 c = search needs
-
-sub-result : tie.Need-sub-result
-sub-result c = inside-bounds (c .before .before .args .shape .conditions) (c .before .before .args .c) (c .before .before .pre) .0
-
-add-result-3 : tie.Need-add-result-3
-add-result-3 c = search needs
 
 returns : tie.Need-returns
 returns c = search needs
 
 pub condition-at-spec : {M : Type 1} → statement M
-condition-at-spec =
-    tie.close
-    (tie.spec
-    cast-result
-    add-result
-    cast-result-2
-    mul-result
-    add-result-2
-    sub-result
-    add-result-3
-    returns)
+condition-at-spec = tie.close (tie.spec conditions-at-requires sub-result add-result returns)

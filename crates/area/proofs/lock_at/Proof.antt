@@ -4,11 +4,8 @@ use borrow.Author.Needs.{needs}
 use Rattle.area.proofs.lock_at.Statement.{statement}
 use Rattle.area.proofs.lock_at.Tie as tie
 
-cast-result : tie.Need-cast-result
-cast-result c = search needs
-
-add-result : tie.Need-add-result
-add-result c = search needs
+locks-at-requires : tie.Need-locks-at-requires
+locks-at-requires c κs = search needs
 
 sub-result : tie.Need-sub-result
 sub-result c = inside-bounds (c .before .args .shape .locks) (c .before .args .l) (c .before .pre) .0
@@ -16,12 +13,11 @@ sub-result c = inside-bounds (c .before .args .shape .locks) (c .before .args .l
 mul-result : tie.Need-mul-result
 mul-result c = search needs
 
-add-result-2 : tie.Need-add-result-2
-add-result-2 c = search needs
+add-result : tie.Need-add-result
+add-result c = search needs
 
 returns : tie.Need-returns
 returns c = search needs
 
 pub lock-at-spec : {M : Type 1} → statement M
-lock-at-spec =
-    tie.close (tie.spec cast-result add-result sub-result mul-result add-result-2 returns)
+lock-at-spec = tie.close (tie.spec locks-at-requires sub-result mul-result add-result returns)

@@ -1,85 +1,42 @@
 -- `area::set_holder` meets its contract: the holder and its lock's locked bit are written together. Assumes nothing.
-use Prim.Native.Nat.{_+_}
-use mathlib.Core.Path.{refl, ap}
-use Rattle.model.specs.Queue.Queue.{lock}
-use Rattle.area.specs.Layout.Slot.{Tail, Holder}
-use Rattle.area.proofs.Fields.{below, below-again, number-fits, write-holder}
+use Rattle.model.specs.Field.Field.{holder}
+use Rattle.area.specs.Layout.Part.{kept, locked}
+use Rattle.area.specs.State.{laid}
+use Rattle.area.proofs.Stores.{stored-then}
+use Rattle.area.proofs.Fields.{holder-fits, takes-holder}
 use borrow.Author.Needs.{needs}
 use Rattle.area.proofs.set_holder.Statement.{statement}
 use Rattle.area.proofs.set_holder.Tie as tie
 
-lock-at-requires : tie.Need-lock-at-requires
-lock-at-requires c κs = search needs
-
-mul-word : tie.Need-mul-word
-mul-word c = search needs
-
-slice-read-word : tie.Need-slice-read-word
-slice-read-word c =
-    let args = c .before .before .before .args in
-    let pre = c .before .before .before .pre in
-    below (pre .0 .1 .image) (Tail (lock (args .l))) (pre .1 .0) (c .before .lock-at .ensures)
+locked-requires : tie.Need-locked-requires
+locked-requires c κs = search needs
 
 locked-by-requires : tie.Need-locked-by-requires
 locked-by-requires c κs = search needs
 
-with-last-requires : tie.Need-with-last-requires
-with-last-requires c κs = search needs
+store-requires : tie.Need-store-requires
+store-requires c κs = let s = c .before .before .before .before .pre .0 in (c .before .before .before .before .args .shape, laid (c .before .before .before .before .args .shape) (s .0), locked (c .before .before .before .before .args .l), s .1 .image, c .before .locked .ensures, c .locked-by .ensures .1)
 
-mul-area : tie.Need-mul-area
-mul-area c = search needs
+holder-requires : tie.Need-holder-requires
+holder-requires c κs = search needs
 
-slice-write-area : tie.Need-slice-write-area
-slice-write-area c =
-    let args = c .before .before .before .before .before .args in
-    let pre = c .before .before .before .before .before .pre in
-    let lock-at = c .before .before .before .lock-at in
-    below (pre .0 .1 .image) (Tail (lock (args .l))) (pre .1 .0) (lock-at .ensures)
-
-mul-area-2 : tie.Need-mul-area-2
-mul-area-2 c =
-    let args = c .before .before .before .before .before .args in
-    let pre = c .before .before .before .before .before .pre in
-    let h = number-fits {p = args .p} (pre .0 .1 .image) (pre .1 .1) in
-    search needs
-
-add-area : tie.Need-add-area
-add-area c = search needs
-
-mul-area-3 : tie.Need-mul-area-3
-mul-area-3 c = search needs
-
-slice-write-area-2 : tie.Need-slice-write-area-2
-slice-write-area-2 c =
-    let args = c .before .before .before .before .before .args in
-    let pre = c .before .before .before .before .before .pre in
-    let lock-at = c .before .before .before .lock-at in
-    below-again (pre .0 .1 .image) (Holder (args .l)) (lock-at .result) (c .with-last .result) (pre .1 .0) (ap (λ k. k + 1) (lock-at .ensures))
+store-requires-2 : tie.Need-store-requires-2
+store-requires-2 c κs =
+    let n = c .before .before .before .before .before .before .before .before .before .args .shape in
+    let s = c .before .before .before .before .before .before .before .before .before .pre .0 in
+    let a = c .before .before .before .before .store .ensures n (laid n (s .0)) (locked (c .before .before .before .before .before .before .before .before .before .args .l)) (s .1 .image) (c .before .before .before .before .before .before .locked .ensures) (c .before .before .before .before .before .locked-by .ensures .1) in
+    (n, _, kept (holder (c .before .before .before .before .before .before .before .before .before .args .l)), a .image, c .holder .ensures, holder-fits (s .1) (c .before .before .before .before .before .before .before .before .before .args .l) (c .before .before .before .before .before .before .before .before .before .args .p) (c .before .before .before .before .before .before .before .before .before .pre .1 .0) (c .before .before .before .before .before .before .before .before .before .pre .1 .1))
 
 same-length : tie.Need-same-length
 same-length c = search needs
 
 returns : tie.Need-returns
 returns c s H =
-    let args = c .before .before .before .before .before .args in
-    let pre = c .before .before .before .before .before .pre in
-    let lock-at = c .before .before .before .lock-at in
-    write-holder H (args .l) (args .p) (pre .1 .0) (pre .1 .1) (lock-at .ensures) (c .before .locked-by .ensures .0) (c .with-last .ensures) refl
+    let n = c .before .before .before .before .before .before .before .before .before .before .before .before .args .shape in
+    let a = c .before .before .before .before .before .before .before .store .ensures n (laid n s) (locked (c .before .before .before .before .before .before .before .before .before .before .before .before .args .l)) (H .image) (c .before .before .before .before .before .before .before .before .before .locked .ensures) (c .before .before .before .before .before .before .before .before .locked-by .ensures .1) in
+    let b = c .before .before .store2 .ensures n _ (kept (holder (c .before .before .before .before .before .before .before .before .before .before .before .before .args .l))) (a .image) (c .before .before .before .holder .ensures) (holder-fits H (c .before .before .before .before .before .before .before .before .before .before .before .before .args .l) (c .before .before .before .before .before .before .before .before .before .before .before .before .args .p) (c .before .before .before .before .before .before .before .before .before .before .before .before .pre .1 .0) (c .before .before .before .before .before .before .before .before .before .before .before .before .pre .1 .1)) in
+    takes-holder H (c .before .before .before .before .before .before .before .before .before .before .before .before .args .l) (c .before .before .before .before .before .before .before .before .before .before .before .before .args .p) (c .before .before .before .before .before .before .before .before .before .before .before .before .pre .1 .0) (c .before .before .before .before .before .before .before .before .before .before .before .before .pre .1 .1) (c .before .before .before .before .before .before .before .before .locked-by .ensures .0) (stored-then a b)
 
 pub set-holder-spec : {M : Type 1} → statement M
 set-holder-spec =
-    tie.close
-    (tie.spec
-    lock-at-requires
-    mul-word
-    slice-read-word
-    locked-by-requires
-    with-last-requires
-    mul-area
-    slice-write-area
-    mul-area-2
-    add-area
-    mul-area-3
-    slice-write-area-2
-    same-length
-    returns)
+    tie.close (tie.spec locked-requires locked-by-requires store-requires holder-requires store-requires-2 same-length returns)

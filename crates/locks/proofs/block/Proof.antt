@@ -2,19 +2,22 @@
 use native.Mathlib.Omega.{arith}
 use mathlib.Core.Path.{refl}
 use Rattle.model.specs.Queue.Queue.{ready, lock}
+use Rattle.model.specs.Field.Field.{failed}
 use Rattle.area.proofs.Puts.{becomes-then}
 use Rattle.area.proofs.Rings.{member-inside}
-use Rattle.area.proofs.Shared.{going}
+use Rattle.moves.proofs.Shared.{taking, going}
 use borrow.Author.Needs.{needs}
 use Rattle.locks.proofs.block.Statement.{statement}
 use Rattle.locks.proofs.block.Tie as tie
 
-set-failed-requires : tie.Need-set-failed-requires
-set-failed-requires c κs =
-    let args = c .before .before .args in
-    let pre = c .before .before .pre in
-    let t = pre .0 in
-    ((t .0, t .1), (member-inside (args .shape) (t .0) (t .1 .placed) (args .p) ready (t .2), omega arith))
+failed-requires : tie.Need-failed-requires
+failed-requires c κs = let t = c .before .before .pre .0 in member-inside (c .before .before .args .shape) (t .0) (t .1 .placed) (c .before .before .args .p) ready (t .2)
+
+put-requires : tie.Need-put-requires
+put-requires c κs =
+    let t = c .before .before .before .pre .0 in
+    let L = c .failed .ensures in
+    (c .before .before .before .args .shape, failed (c .before .before .before .args .p), (t .0, t .1), taking (failed (c .before .before .before .args .p)) L refl (rw (L .0) (omega arith)))
 
 ready-at-requires : tie.Need-ready-at-requires
 ready-at-requires c κs = search needs
@@ -24,32 +27,28 @@ lock-at-requires c κs = search needs
 
 send-requires : tie.Need-send-requires
 send-requires c κs =
-    let args = c .before .before .before .before .before .before .before .before .args in
-    let pre = c .before .before .before .before .before .before .before .before .pre in
-    let set-failed = c .before .before .before .before .before .set-failed in
-    let ready-at = c .before .before .ready-at in
-    let t = pre .0 in
-    going (set-failed .ensures (t .0) (t .1) .holds) ready (lock (args .lock)) refl (pre .1) (ready-at .ensures (args .shape)) (c .before .lock-at .ensures) (t .2) refl
+    let n = c .before .before .before .before .before .before .before .before .before .args .shape in
+    let t = c .before .before .before .before .before .before .before .before .before .pre .0 in
+    let L = c .before .before .before .before .before .before .failed .ensures in
+    let b = c .before .before .before .before .before .put .ensures n (t .0) (failed (c .before .before .before .before .before .before .before .before .before .args .p)) (t .1) (taking (failed (c .before .before .before .before .before .before .before .before .before .args .p)) L refl (rw (L .0) (omega arith))) in
+    going (b .holds) ready (lock (c .before .before .before .before .before .before .before .before .before .args .lock)) refl (c .before .before .before .before .before .before .before .before .before .pre .1) (c .before .before .ready-at .ensures n) (c .before .lock-at .ensures) (t .2) refl
 
 same-length : tie.Need-same-length
 same-length c = search needs
 
 returns : tie.Need-returns
 returns c s H m =
-    let args = c .before .before .before .before .before .before .before .before .before .before .before .args in
-    let pre = c .before .before .before .before .before .before .before .before .before .before .before .pre in
-    let set-failed = c .before .before .before .before .before .before .before .before .set-failed in
-    let ready-at = c .before .before .before .before .before .ready-at in
-    let lock-at = c .before .before .before .before .lock-at in
-    let send = c .before .before .send in
-    let b = set-failed .ensures s H in
-    becomes-then b (send .ensures (going (b .holds) ready (lock (args .lock)) refl (pre .1) (ready-at .ensures (args .shape)) (lock-at .ensures) m refl) .done refl)
+    let n = c .before .before .before .before .before .before .before .before .before .before .before .before .args .shape in
+    let L = c .before .before .before .before .before .before .before .before .before .failed .ensures in
+    let b = c .before .before .before .before .before .before .before .before .put .ensures n s (failed (c .before .before .before .before .before .before .before .before .before .before .before .before .args .p)) H (taking (failed (c .before .before .before .before .before .before .before .before .before .before .before .before .args .p)) L refl (rw (L .0) (omega arith))) in
+    becomes-then b (c .before .before .send .ensures (going (b .holds) ready (lock (c .before .before .before .before .before .before .before .before .before .before .before .before .args .lock)) refl (c .before .before .before .before .before .before .before .before .before .before .before .before .pre .1) (c .before .before .before .before .before .ready-at .ensures n) (c .before .before .before .before .lock-at .ensures) m refl) .done refl)
 
 pub block-spec : {M : Type 1} → statement M
 block-spec =
     tie.close
     (tie.spec
-    set-failed-requires
+    failed-requires
+    put-requires
     ready-at-requires
     lock-at-requires
     send-requires

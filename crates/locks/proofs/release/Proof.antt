@@ -3,9 +3,9 @@ use native.Mathlib.Omega.{arith}
 use mathlib.Core.Path.{refl}
 use Rattle.model.specs.Queue.Queue.{ready, lock}
 use Rattle.area.proofs.Puts.{becomes-then}
-use Rattle.area.proofs.Fields.{first-small}
-use Rattle.area.proofs.Shared.{going}
-use Rattle.area.proofs.Numbers.{first-stands}
+use Rattle.moves.proofs.Queues.{first-small}
+use Rattle.moves.proofs.Shared.{going}
+use Rattle.moves.proofs.Numbers.{first-stands}
 use Rattle.locks.proofs.Locking.{release-none, release-first}
 use borrow.Author.Needs.{needs}
 use Rattle.locks.proofs.release.Statement.{statement}

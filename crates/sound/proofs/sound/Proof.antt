@@ -1,13 +1,17 @@
 -- `sound::sound` meets its contract: past its tests the counts, running and the three passes are what `Check` asks for, and each way out before the end
 -- contradicts a clause of soundness. Assumes nothing.
 use denote.Ref.{now}
+use Prim.Native.Nat.{_≤_}
 use native.Mathlib.Omega.{arith}
+use mathlib.Core.Path.{refl}
+use lib.ListN.{length}
+use borrow.Author.Needs.{needs}
+use Rattle.area.specs.Layout.{size}
+use Rattle.area.proofs.States.{Words}
+use Rattle.sound.specs.Parts.{Counted}
 use Rattle.sound.proofs.Marks.{clear}
 use Rattle.sound.proofs.Check.{decides-yes, decides-no, uncounted, unready, broken-1, broken-2, finished, refuses}
-use Rattle.sound.proofs.Queues.{lent-runs, lent-records, lent-within, lent-visits}
-use Rattle.sound.specs.Parts.{Counted}
-use Rattle.area.proofs.States.{Words}
-use borrow.Author.Needs.{needs}
+use Rattle.sound.proofs.Queues.{counted-long, lent-runs, lent-records, lent-within, lent-visits}
 use Rattle.sound.proofs.sound.Statement.{statement}
 use Rattle.sound.proofs.sound.Tie as tie
 
@@ -22,15 +26,19 @@ small c i = omega (arith, c .before .before .shared-slice-known .given i)
 counts : (c : tie.Else1) → Counted (now (c .before .before .before .args .area))
 counts c = decides-yes (c .before .counted .result) (c .before .counted .ensures) (c .if1 .left)
 
--- from behind each later test back to the first
-abbrev from-2 : tie.Else2 → tie.Else1
-from-2 c = c .before .before .before .before .before .before
+-- and the area is as long as they ask
+long : (c : tie.After-records-at) → size (c .before .shape-of .result) ≤ length (now (c .before .before .before .before .before .args .area))
+long c = counted-long (c .before .shape-of .ensures) (counts (c .before .before))
 
-abbrev from-3 : tie.Else3 → tie.Else1
-from-3 c = from-2 (c .before .before .before .before)
+-- from behind each later test back to the records
+abbrev from-2 : tie.Else2 → tie.After-records-at
+from-2 c = c .before .before .before
 
-abbrev from-4 : tie.Else4 → tie.Else1
-from-4 c = from-3 (c .before .before .before .before)
+abbrev from-3 : tie.Else3 → tie.After-records-at
+from-3 c = from-2 (c .before .before .before .before .before)
+
+abbrev from-4 : tie.Else4 → tie.After-records-at
+from-4 c = from-3 (c .before .before .before .before .before .before)
 
 counted-requires : tie.Need-counted-requires
 counted-requires c κs = search needs
@@ -40,133 +48,146 @@ returns c =
     let args = c .before .before .before .args in
     refuses (uncounted (now (args .area)) (small-then c) (decides-no (c .before .counted .result) (c .before .counted .ensures) (c .if1 .taken)))
 
-shared-slice-read-processes : tie.Need-shared-slice-read-processes
-shared-slice-read-processes c = omega (arith, counts (c .before), small (c .before) 1)
+shape-of-requires : tie.Need-shape-of-requires
+shape-of-requires c κs = omega (arith, counts c)
 
-shared-slice-read-parks : tie.Need-shared-slice-read-parks
-shared-slice-read-parks c = omega (arith, counts (c .before .before), small (c .before .before) 1)
-
-cast-parks : tie.Need-cast-parks
-cast-parks c = omega (arith, counts (c .before .before), small (c .before .before) 1)
-
-shared-slice-read-second : tie.Need-shared-slice-read-second
-shared-slice-read-second c = omega (arith, counts (c .before .before .before), small (c .before .before .before) 1)
-
-cast-locks : tie.Need-cast-locks
-cast-locks c = omega (arith, counts (c .before .before .before), small (c .before .before .before) 1)
-
-cast-conditions : tie.Need-cast-conditions
-cast-conditions c = search needs
-
-add-first-lock : tie.Need-add-first-lock
-add-first-lock c = omega (arith, counts (c .before .before .before), small (c .before .before .before) 1)
-
-mul-first-condition : tie.Need-mul-first-condition
-mul-first-condition c = omega (arith, counts (c .before .before .before), small (c .before .before .before) 1)
-
-add-first-condition : tie.Need-add-first-condition
-add-first-condition c = omega (arith, counts (c .before .before .before), small (c .before .before .before) 1)
-
-add-first-record : tie.Need-add-first-record
-add-first-record c = omega (arith, counts (c .before .before .before), small (c .before .before .before) 1)
+records-at-requires : tie.Need-records-at-requires
+records-at-requires c κs = search needs
 
 mul-records : tie.Need-mul-records
-mul-records c = omega (arith, counts (c .before .before .before), small (c .before .before .before) 1)
+mul-records c = search needs
 
 sub-records : tie.Need-sub-records
-sub-records c = omega (arith, counts (c .before .before .before), small (c .before .before .before) 1)
+sub-records c = omega (arith, long c)
 
 part-records-start : tie.Need-part-records-start
-part-records-start c = omega (arith, counts (c .before .before .before), small (c .before .before .before) 1)
+part-records-start c = omega (arith, long c)
 
 part-records-end : tie.Need-part-records-end
-part-records-end c = omega (arith, counts (c .before .before .before), small (c .before .before .before) 1)
+part-records-end c = search needs
 
 runs-requires : tie.Need-runs-requires
-runs-requires c κs = (counts (c .before .before .before .before) .header, lent-records _ (counts (c .before .before .before .before)))
+runs-requires c κs =
+    let r = c .before in
+    let e = r .before .before in
+    (counts e .header, lent-records _ (r .before .shape-of .ensures) (r .records-at .ensures) (counts e))
 
 returns-2 : tie.Need-returns-2
 returns-2 c =
-    let e = c .before .before .before .before .before .before in
+    let r = c .before .before .before in
+    let e = r .before .before in
     let ws = now (e .before .before .before .args .area) in
-    refuses (unready ws (small e) (decides-no (c .before .runs .result) (lent-runs ws (c .before .runs .result) (c .before .runs .ensures)) (c .if2 .taken)))
+    refuses (unready ws (small e) (decides-no (c .before .runs .result) (lent-runs ws (r .before .shape-of .ensures) (r .records-at .ensures) (c .before .runs .result) (c .before .runs .ensures)) (c .if2 .taken)))
 
 sub-rings : tie.Need-sub-rings
-sub-rings c = omega (arith, counts (from-2 c), small (from-2 c) 1)
+sub-rings c = omega (arith, long (from-2 c))
 
 part-rings-start : tie.Need-part-rings-start
-part-rings-start c = omega (arith, counts (from-2 c), small (from-2 c) 1)
+part-rings-start c = omega (arith, long (from-2 c))
 
 part-rings-end : tie.Need-part-rings-end
-part-rings-end c = omega (arith, counts (from-2 c), small (from-2 c) 1)
+part-rings-end c = search needs
+
+cast-rings : tie.Need-cast-rings
+cast-rings c = search needs
 
 add-rings : tie.Need-add-rings
-add-rings c = omega (arith, counts (from-2 (c .before)), small (from-2 (c .before)) 1)
+add-rings c = search needs
 
 rings-requires : tie.Need-rings-requires
-rings-requires c κs = lent-within _ (counts (from-2 (c .before .before))) (small (from-2 (c .before .before))) 0 (omega arith)
+rings-requires c κs =
+    let r = from-2 (c .before .before .before) in
+    let e = r .before .before in
+    lent-within _ (r .before .shape-of .ensures) (r .records-at .ensures) (counts e) (small e) 0 (omega arith) refl
 
 returns-3 : tie.Need-returns-3
 unfolding clear
 returns-3 c =
-    let e = from-2 (c .before .before .before .before) in
+    let r = from-2 (c .before .before .before .before .before) in
+    let e = r .before .before in
     let ws = now (e .before .before .before .args .area) in
-    refuses (broken-1 ws (small e) (counts e) _ _ (λ js T. lent-visits ws 0 (omega arith) _ _ _ js (c .before .rings .ensures js T)) (c .if3 .taken))
+    refuses (broken-1 ws (small e) (counts e) _ _ (lent-visits ws (r .before .shape-of .ensures) (r .records-at .ensures) 0 (omega arith) refl _ _ _ _ (c .before .rings .ensures)) (c .if3 .taken))
+
+locks-at-requires : tie.Need-locks-at-requires
+locks-at-requires c κs = search needs
 
 mul-rings : tie.Need-mul-rings
-mul-rings c = omega (arith, counts (from-3 c), small (from-3 c) 1)
+mul-rings c = search needs
 
 sub-rings-2 : tie.Need-sub-rings-2
-sub-rings-2 c = omega (arith, counts (from-3 c), small (from-3 c) 1)
+sub-rings-2 c = omega (arith, long (from-3 (c .before)))
 
 part-rings-start-2 : tie.Need-part-rings-start-2
-part-rings-start-2 c = omega (arith, counts (from-3 c), small (from-3 c) 1)
+part-rings-start-2 c = omega (arith, long (from-3 (c .before)))
 
 part-rings-end-2 : tie.Need-part-rings-end-2
-part-rings-end-2 c = omega (arith, counts (from-3 c), small (from-3 c) 1)
+part-rings-end-2 c = search needs
+
+cast-rings-2 : tie.Need-cast-rings-2
+cast-rings-2 c = search needs
 
 rings-requires-2 : tie.Need-rings-requires-2
-rings-requires-2 c κs = lent-within _ (counts (from-3 (c .before .before))) (small (from-3 (c .before .before))) 1 (omega arith)
+rings-requires-2 c κs =
+    let l = c .before .before .before in
+    let r = from-3 (l .before) in
+    let e = r .before .before in
+    lent-within _ (r .before .shape-of .ensures) (r .records-at .ensures) (counts e) (small e) 1 (omega arith) (l .locks-at .ensures)
 
 returns-4 : tie.Need-returns-4
 unfolding clear
 returns-4 c =
-    let i3 = c .before .before .before .before in
-    let e = from-3 i3 in
+    let l = c .before .before .before .before .before in
+    let i3 = l .before in
+    let r = from-3 i3 in
+    let e = r .before .before in
     let ws = now (e .before .before .before .args .area) in
-    refuses (broken-2 ws (small e) (counts e) _ _ (λ js T. lent-visits ws 0 (omega arith) _ _ _ js (i3 .before .rings .ensures js T)) (i3 .if3 .left)
-    _ _ (λ js T. lent-visits ws 1 (omega arith) _ _ _ js (c .before .rings2 .ensures js T)) (c .if4 .taken))
+    refuses (broken-2 ws (small e) (counts e) _ _ (lent-visits ws (r .before .shape-of .ensures) (r .records-at .ensures) 0 (omega arith) refl _ _ _ _ (i3 .before .rings .ensures)) (i3 .if3 .left)
+    _ _ (lent-visits ws (r .before .shape-of .ensures) (r .records-at .ensures) 1 (omega arith) (l .locks-at .ensures) _ _ _ _ (c .before .rings2 .ensures)) (c .if4 .taken))
+
+conditions-at-requires : tie.Need-conditions-at-requires
+conditions-at-requires c κs = search needs
 
 mul-rings-2 : tie.Need-mul-rings-2
-mul-rings-2 c = omega (arith, counts (from-4 c), small (from-4 c) 1)
+mul-rings-2 c = search needs
 
 sub-rings-3 : tie.Need-sub-rings-3
-sub-rings-3 c = omega (arith, counts (from-4 c), small (from-4 c) 1)
+sub-rings-3 c = omega (arith, long (from-4 (c .before)))
 
 part-rings-start-3 : tie.Need-part-rings-start-3
-part-rings-start-3 c = omega (arith, counts (from-4 c), small (from-4 c) 1)
+part-rings-start-3 c = omega (arith, long (from-4 (c .before)))
 
 part-rings-end-3 : tie.Need-part-rings-end-3
-part-rings-end-3 c = omega (arith, counts (from-4 c), small (from-4 c) 1)
+part-rings-end-3 c = search needs
+
+cast-rings-3 : tie.Need-cast-rings-3
+cast-rings-3 c = search needs
 
 rings-requires-3 : tie.Need-rings-requires-3
-rings-requires-3 c κs = lent-within _ (counts (from-4 (c .before .before))) (small (from-4 (c .before .before))) 2 (omega arith)
+rings-requires-3 c κs =
+    let k = c .before .before .before in
+    let r = from-4 (k .before) in
+    let e = r .before .before in
+    lent-within _ (r .before .shape-of .ensures) (r .records-at .ensures) (counts e) (small e) 2 (omega arith) (k .conditions-at .ensures)
 
 cast-result : tie.Need-cast-result
-cast-result c = omega (arith, counts (from-4 (c .before .before .before)), small (from-4 (c .before .before .before)) 1)
+cast-result c = search needs
 
 returns-5 : tie.Need-returns-5
 unfolding clear
 returns-5 c =
-    let i4 = c .before .before .before in
-    let i3 = i4 .before .before .before .before in
-    let i2 = i3 .before .before .before .before in
-    let e = from-2 i2 in
+    let k = c .before .before .before .before .before in
+    let i4 = k .before in
+    let l = i4 .before .before .before .before .before in
+    let i3 = l .before in
+    let i2 = i3 .before .before .before .before .before in
+    let r = from-2 i2 in
+    let e = r .before .before in
     let ws = now (e .before .before .before .args .area) in
-    finished ws (small e) (counts e) _ _ (λ js T. lent-visits ws 0 (omega arith) _ _ _ js (i3 .before .rings .ensures js T)) (i3 .if3 .left)
-    _ _ (λ js T. lent-visits ws 1 (omega arith) _ _ _ js (i4 .before .rings2 .ensures js T)) (i4 .if4 .left)
-    _ _ (λ js T. lent-visits ws 2 (omega arith) _ _ _ js (c .rings3 .ensures js T))
-    (decides-yes (i2 .before .runs .result) (lent-runs ws (i2 .before .runs .result) (i2 .before .runs .ensures)) (i2 .if2 .left))
+    rw (r .before .shape-of .ensures)
+    (finished ws (small e) (counts e) _ _ (lent-visits ws (r .before .shape-of .ensures) (r .records-at .ensures) 0 (omega arith) refl _ _ _ _ (i3 .before .rings .ensures)) (i3 .if3 .left)
+    _ _ (lent-visits ws (r .before .shape-of .ensures) (r .records-at .ensures) 1 (omega arith) (l .locks-at .ensures) _ _ _ _ (i4 .before .rings2 .ensures)) (i4 .if4 .left)
+    _ _ (lent-visits ws (r .before .shape-of .ensures) (r .records-at .ensures) 2 (omega arith) (k .conditions-at .ensures) _ _ _ _ (c .before .rings3 .ensures))
+    (decides-yes (i2 .before .runs .result) (lent-runs ws (r .before .shape-of .ensures) (r .records-at .ensures) (i2 .before .runs .result) (i2 .before .runs .ensures)) (i2 .if2 .left)))
 
 pub sound-spec : {M : Type 1} → statement M
 sound-spec =
@@ -174,16 +195,8 @@ sound-spec =
     (tie.spec
     counted-requires
     returns
-    shared-slice-read-processes
-    shared-slice-read-parks
-    cast-parks
-    shared-slice-read-second
-    cast-locks
-    cast-conditions
-    add-first-lock
-    mul-first-condition
-    add-first-condition
-    add-first-record
+    shape-of-requires
+    records-at-requires
     mul-records
     sub-records
     part-records-start
@@ -193,19 +206,24 @@ sound-spec =
     sub-rings
     part-rings-start
     part-rings-end
+    cast-rings
     add-rings
     rings-requires
     returns-3
+    locks-at-requires
     mul-rings
     sub-rings-2
     part-rings-start-2
     part-rings-end-2
+    cast-rings-2
     rings-requires-2
     returns-4
+    conditions-at-requires
     mul-rings-2
     sub-rings-3
     part-rings-start-3
     part-rings-end-3
+    cast-rings-3
     rings-requires-3
     cast-result
     returns-5)

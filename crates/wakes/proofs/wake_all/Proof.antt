@@ -12,7 +12,7 @@ use Rattle.area.specs.Layout.{at}
 use Rattle.area.specs.Layout.Slot.{Tail}
 use Rattle.area.specs.Holds.{Holds}
 use Rattle.area.proofs.Rings.{member-inside}
-use Rattle.area.proofs.Numbers.{as-long}
+use Rattle.moves.proofs.Numbers.{as-long}
 use Rattle.wakes.proofs.Waking.{Waking, waking-start, waking-few, waking-member, waking-next, waking-end}
 use Rattle.wakes.proofs.wake_all.Statement.{statement}
 use Rattle.wakes.proofs.wake_all.Tie as tie

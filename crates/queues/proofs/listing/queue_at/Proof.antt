@@ -1,6 +1,6 @@
 -- `queues::listing::queue_at` meets its contract: a kind by a kind, and the number against the count of that kind. Assumes nothing.
 use Rattle.model.proofs.Tests.{eqb-yes, eqb-no}
-use Rattle.area.proofs.Numbers.{is-inside}
+use Rattle.moves.proofs.Numbers.{is-inside}
 use Rattle.queues.proofs.QueueBy.{beyond, placed, unplaced, number-0, no-kind, park-place}
 use mathlib.Core.Path.{refl}
 use borrow.Author.Needs.{needs}

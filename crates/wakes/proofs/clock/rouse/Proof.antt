@@ -10,7 +10,7 @@ use Rattle.model.specs.Queue.Queue.{condition}
 use Rattle.model.specs.Machine.{State, model}
 use Rattle.model.proofs.Tests.{bounds-inside}
 use Rattle.area.specs.Holds.{Holds}
-use Rattle.area.proofs.Numbers.{as-long}
+use Rattle.moves.proofs.Numbers.{as-long}
 use Rattle.wakes.proofs.Ticking.{any-some, any-next, any-last, sleeper, held-still, becomes-still}
 use Rattle.wakes.proofs.clock.rouse.Statement.{statement}
 use Rattle.wakes.proofs.clock.rouse.Tie as tie

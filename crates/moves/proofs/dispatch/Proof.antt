@@ -1,0 +1,90 @@
+-- `moves::dispatch` meets its contract: the first of ready runs, and is no longer failed. Assumes nothing.
+use native.Mathlib.Omega.{arith}
+use mathlib.Core.Path.{refl}
+use Rattle.model.specs.Queue.Queue.{ready}
+use Rattle.model.specs.Field.Field.{running, failed}
+use Rattle.area.proofs.Puts.{becomes-then}
+use Rattle.moves.proofs.Queues.{first-process, first-runs, dispatch-none, dispatch-first}
+use Rattle.moves.proofs.Shared.{taking}
+use borrow.Author.Needs.{needs}
+use Rattle.moves.proofs.dispatch.Statement.{statement}
+use Rattle.moves.proofs.dispatch.Tie as tie
+
+ready-at-requires : tie.Need-ready-at-requires
+ready-at-requires c κs = search needs
+
+first-in-requires : tie.Need-first-in-requires
+first-in-requires c κs = (c .before .before .before .pre, (ready, refl, c .before .ready-at .ensures (c .before .before .before .args .shape)))
+
+running-requires : tie.Need-running-requires
+running-requires c κs = search needs
+
+put-requires : tie.Need-put-requires
+put-requires c κs =
+    let n = c .before .before .before .before .before .before .args .shape in
+    let pre = c .before .before .before .before .before .before .pre in
+    let f = c .before .before .first-in .ensures _ ready (pre .1) refl (c .before .before .before .before .ready-at .ensures n) in
+    (n, running, pre, taking running (c .running .ensures n) refl (first-runs (pre .1) ready f))
+
+same-length : tie.Need-same-length
+same-length c = search needs
+
+returns : tie.Need-returns
+returns c s H =
+    let n = c .before .before .before .before .before .before .before .before .before .before .args .shape in
+    let f = c .before .before .before .before .before .before .first-in .ensures s ready H refl (c .before .before .before .before .before .before .before .before .ready-at .ensures n) in
+    dispatch-none H f (c .if1 .taken) (c .before .before .before .put .ensures n s running H (taking running (c .before .before .before .before .running .ensures n) refl (first-runs H ready f)))
+
+failed-requires : tie.Need-failed-requires
+failed-requires c κs =
+    let pre = c .before .before .before .before .before .before .before .before .before .before .before .pre in
+    first-process (pre .1) ready (c .before .before .before .before .before .before .before .first-in .ensures (pre .0) ready (pre .1) refl (c .before .before .before .before .before .before .before .before .before .ready-at .ensures (c .before .before .before .before .before .before .before .before .before .before .before .args .shape))) (c .before .if1 .left)
+
+get-requires : tie.Need-get-requires
+get-requires c κs =
+    let n = c .before .before .before .before .before .before .before .before .before .before .before .before .args .shape in
+    let pre = c .before .before .before .before .before .before .before .before .before .before .before .before .pre in
+    let f = c .before .before .before .before .before .before .before .before .first-in .ensures _ ready (pre .1) refl (c .before .before .before .before .before .before .before .before .before .before .ready-at .ensures n) in
+    (n, failed (c .before .before .before .before .before .before .before .before .first-in .result), (_, c .before .before .before .before .before .put .ensures n _ running (pre .1) (taking running (c .before .before .before .before .before .before .running .ensures n) refl (first-runs (pre .1) ready f)) .holds), c .failed .ensures)
+
+failed-requires-2 : tie.Need-failed-requires-2
+failed-requires-2 c κs =
+    let pre = c .before .before .before .before .before .before .before .before .before .before .before .before .before .before .pre in
+    first-process (pre .1) ready (c .before .before .before .before .before .before .before .before .before .before .first-in .ensures (pre .0) ready (pre .1) refl (c .before .before .before .before .before .before .before .before .before .before .before .before .ready-at .ensures (c .before .before .before .before .before .before .before .before .before .before .before .before .before .before .args .shape))) (c .before .before .before .before .if1 .left)
+
+put-requires-2 : tie.Need-put-requires-2
+put-requires-2 c κs =
+    let n = c .before .before .before .before .before .before .before .before .before .before .before .before .before .before .before .args .shape in
+    let pre = c .before .before .before .before .before .before .before .before .before .before .before .before .before .before .before .pre in
+    let L = c .failed2 .ensures in
+    let f = c .before .before .before .before .before .before .before .before .before .before .before .first-in .ensures _ ready (pre .1) refl (c .before .before .before .before .before .before .before .before .before .before .before .before .before .ready-at .ensures n) in
+    (n, failed (c .before .before .before .before .before .before .before .before .before .before .before .first-in .result), (_, c .before .before .before .before .before .before .before .before .put .ensures n _ running (pre .1) (taking running (c .before .before .before .before .before .before .before .before .before .running .ensures n) refl (first-runs (pre .1) ready f)) .holds), taking (failed (c .before .before .before .before .before .before .before .before .before .before .before .first-in .result)) L refl (rw (L .0) (omega arith)))
+
+same-length-2 : tie.Need-same-length-2
+same-length-2 c = search needs
+
+returns-2 : tie.Need-returns-2
+returns-2 c s H =
+    let n = c .before .before .before .before .before .before .before .before .before .before .before .before .before .before .before .before .before .before .args .shape in
+    let p = c .before .before .before .before .before .before .before .before .before .before .before .before .before .before .first-in .result in
+    let f = c .before .before .before .before .before .before .before .before .before .before .before .before .before .before .first-in .ensures s ready H refl (c .before .before .before .before .before .before .before .before .before .before .before .before .before .before .before .before .ready-at .ensures n) in
+    let b = c .before .before .before .before .before .before .before .before .before .before .before .put .ensures n s running H (taking running (c .before .before .before .before .before .before .before .before .before .before .before .before .running .ensures n) refl (first-runs H ready f)) in
+    let L = c .before .before .before .failed2 .ensures in
+    dispatch-first H f (c .before .before .before .before .before .before .before .before .if1 .left) (c .before .before .before .before .before .get .ensures n _ (failed p) (b .holds) (c .before .before .before .before .before .before .failed .ensures)) (becomes-then b (c .before .before .put2 .ensures n _ (failed p) (b .holds) (taking (failed p) L refl (rw (L .0) (omega arith)))))
+
+pub dispatch-spec : {M : Type 1} → statement M
+dispatch-spec =
+    tie.close
+    (tie.spec
+    ready-at-requires
+    first-in-requires
+    running-requires
+    put-requires
+    same-length
+    returns
+    failed-requires
+    get-requires
+    failed-requires-2
+    put-requires-2
+    same-length-2
+    returns-2)

@@ -1,0 +1,93 @@
+-- `moves::put_in` meets its contract: the records are lent to the rings, and what comes back changes one ring. Assumes nothing.
+use borrow.Author.Needs.{needs}
+use Rattle.moves.proofs.Relinks.{tail-below, tail-again, joins-stands, joins-ring, joins-falls, joined-relinks}
+use Rattle.ring.proofs.Rings.{ring-tail-small}
+use Rattle.moves.proofs.put_in.Statement.{statement}
+use Rattle.moves.proofs.put_in.Tie as tie
+
+records-at-requires : tie.Need-records-at-requires
+records-at-requires c κs = search needs
+
+mul-word : tie.Need-mul-word
+mul-word c = let j = c .before .before .pre in let h = tail-below (j .queue) (j .rings) (j .given) (j .here) in search needs
+
+slice-read-word : tie.Need-slice-read-word
+slice-read-word c = let j = c .before .before .before .pre in tail-below (j .queue) (j .rings) (j .given) (j .here)
+
+mul-join : tie.Need-mul-join
+mul-join c = search needs
+
+sub-join : tie.Need-sub-join
+sub-join c = search needs
+
+part-join-start : tie.Need-part-join-start
+part-join-start c = search needs
+
+part-join-end : tie.Need-part-join-end
+part-join-end c = search needs
+
+next-field-requires : tie.Need-next-field-requires
+next-field-requires c κs = search needs
+
+join-requires : tie.Need-join-requires
+join-requires c κs =
+    let pre = c .before .before .before .before .before .pre in
+    let records-at = c .before .before .before .records-at in
+    let j = pre in
+    (joins-stands j (records-at .result) (c .next-field .result) (records-at .ensures) (c .next-field .ensures), (_, joins-ring j (records-at .result) (c .next-field .result) (records-at .ensures) (c .next-field .ensures), joins-falls j (records-at .result) (c .next-field .result) (records-at .ensures) (c .next-field .ensures), j .out (j .queue)))
+
+with-next-requires : tie.Need-with-next-requires
+with-next-requires c κs =
+    let pre = c .before .before .before .before .before .before .before .before .pre in
+    let records-at = c .before .before .before .before .before .before .records-at in
+    let next-field = c .before .before .before .next-field in
+    let join = c .before .before .join in
+    let j = pre in
+    let l = join .ensures _ (joins-ring j (records-at .result) (next-field .result) (records-at .ensures) (next-field .ensures)) (joins-falls j (records-at .result) (next-field .result) (records-at .ensures) (next-field .ensures)) (j .out (j .queue)) in
+    ring-tail-small _ (l .ring)
+
+mul-area : tie.Need-mul-area
+mul-area c =
+    let pre = c .before .before .before .before .before .before .before .before .before .pre in
+    let records-at = c .before .before .before .before .before .before .before .records-at in
+    let join = c .before .before .before .join in
+    let j = pre in
+    let h = tail-again (j .queue) (records-at .result) (join .last .0) (j .rings) (j .given) (j .here) (records-at .ensures) in
+    search needs
+
+slice-write-area : tie.Need-slice-write-area
+slice-write-area c =
+    let pre = c .before .before .before .before .before .before .before .before .before .pre in
+    let records-at = c .before .before .before .before .before .before .before .records-at in
+    let join = c .before .before .before .join in
+    let j = pre in
+    tail-again (j .queue) (records-at .result) (join .last .0) (j .rings) (j .given) (j .here) (records-at .ensures)
+
+same-length : tie.Need-same-length
+same-length c = search needs
+
+returns : tie.Need-returns
+returns c j =
+    let records-at = c .before .before .before .before .before .before .before .records-at in
+    let next-field = c .before .before .before .before .next-field in
+    let join = c .before .before .before .join in
+    joined-relinks j (records-at .result) (next-field .result) (records-at .ensures) (next-field .ensures) (join .last .0) (join .result) (c .with-next .result) (join .ensures _ (joins-ring j (records-at .result) (next-field .result) (records-at .ensures) (next-field .ensures)) (joins-falls j (records-at .result) (next-field .result) (records-at .ensures) (next-field .ensures)) (j .out (j .queue))) (c .with-next .ensures)
+
+pub put-in-spec : {M : Type 1} → statement M
+put-in-spec =
+    tie.close
+    (tie.spec
+    records-at-requires
+    mul-word
+    slice-read-word
+    mul-join
+    sub-join
+    part-join-start
+    part-join-end
+    next-field-requires
+    join-requires
+    with-next-requires
+    mul-area
+    slice-write-area
+    same-length
+    returns)

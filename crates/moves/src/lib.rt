@@ -1,0 +1,144 @@
+// The queues of an area, as rings in its records: reads of one, the move of a process from one to another, and dispatch. `answers` ends a call with its answer, and `codes` has the tests that calls share. Assumes nothing.
+use area::places;
+use model::Shape;
+ghost use mathlib.Core.Path.{_≡_};
+ghost use mathlib.Core.Bool.{true};
+ghost use mathlib.Core.List.{_++_};
+ghost use Prim.Native.Nat.{_<_, _≤_};
+ghost use lib.ListN.{length, drop};
+ghost use Rattle.model.specs.Queue.{Queue, exists, remove, insert, first};
+ghost use Rattle.model.specs.Queue.Queue.{ready};
+ghost use Rattle.model.specs.Field.Field.{priority};
+ghost use Rattle.model.specs.Machine.{State, model, retry};
+ghost use Rattle.area.specs.Layout.{at};
+ghost use Rattle.area.specs.Layout.Slot.{Tail};
+ghost use Rattle.area.specs.Holds.{Holds, Held, Becomes, Tried, Moves, with, sent, dispatched};
+ghost use Rattle.area.specs.Rings.{Leaves, Joins, Relinked, ranks};
+
+pub mod answers;
+pub mod codes;
+
+// ---- reads
+
+// The first of the queue whose tail stands at i, 0 if it is empty.
+pub fn first_in(area: &[u16], shape: Shape, i: usize) -> u16
+    requires { ⌜ Held shape (now area) ⌝ }
+    requires { ⌜ ((q : Queue) × (exists shape q ≡ true) × (i ≡ at shape (Tail q))) ⌝ }
+    ensures { λ r. ⌜ ((s : State model) (q : Queue) → Holds shape (now (area .entry)) s → exists shape q ≡ true → i ≡ at shape (Tail q) → r ≡ first (s .queues q)) ⌝ }
+{
+    let at = area::records_at(shape);
+    let tail = ring::next_field(area[i]);
+    ring::first_of(&area[at..], tail)
+}
+
+// How many processes the queue whose tail stands at i has.
+pub fn count_in(area: &[u16], shape: Shape, i: usize) -> u16
+    requires { ⌜ Held shape (now area) ⌝ }
+    requires { ⌜ ((q : Queue) × (exists shape q ≡ true) × (i ≡ at shape (Tail q))) ⌝ }
+    ensures { λ r. ⌜ ((s : State model) (q : Queue) → Holds shape (now (area .entry)) s → exists shape q ≡ true → i ≡ at shape (Tail q) → r ≡ length (s .queues q)) ⌝ }
+{
+    let at = area::records_at(shape);
+    let tail = ring::next_field(area[i]);
+    ring::length_of(&area[at..], tail)
+}
+
+// Writes the queue whose tail stands at i to the front of out, the first of it first. The answer is how many.
+pub fn copy_out(area: &[u16], shape: Shape, i: usize, out: &mut [u16]) -> u16
+    requires { ⌜ ((s : State model) × (q : Queue) × Holds shape (now area) s × (exists shape q ≡ true) × (i ≡ at shape (Tail q)) × (length (s .queues q) ≤ length (now out))) ⌝ }
+    ensures { λ r. ⌜ ((s : State model) (q : Queue) → Holds shape (now (area .entry)) s → exists shape q ≡ true → i ≡ at shape (Tail q) → (r ≡ length (s .queues q)) × (now (out .exit) ≡ s .queues q ++ drop (length (s .queues q)) (now (out .entry)))) ⌝ }
+{
+    let at = area::records_at(shape);
+    let tail = ring::next_field(area[i]);
+    ring::write_out(&area[at..], tail, out)
+}
+
+// ---- moves
+
+// p leaves the ring whose tail stands at i, if it stands there. Whether it does.
+fn take_out(area: &mut [u16], shape: Shape, i: usize, p: u16) -> bool
+    requires { ⌜ Leaves shape (now area) i p ⌝ }
+    ensures { λ r. ⌜ ((j : Leaves shape (now (area .entry)) i p) → Tried (j .stood) r (now (area .entry)) (now (area .exit)) (Relinked shape (now (area .entry)) (now (area .exit)) (j .parts) (j .queues) (j .queue) (remove p (j .queues (j .queue))))) ⌝ }
+{
+    let at = area::records_at(shape);
+    let word = area[i];
+    let tail = ring::next_field(word);
+    let prev = ring::before(&area[at..], tail, p);
+    if prev == 0 {
+        return false;
+    }
+    let new = ring::leave(&mut area[at..], tail, prev, p);
+    area[i] = ring::with_next(word, new);
+    true
+}
+
+// p, which stands in no ring, joins the one whose tail stands at i.
+fn put_in(area: &mut [u16], shape: Shape, i: usize, p: u16)
+    requires { ⌜ Joins shape (now area) i p ⌝ }
+    ensures { λ _. ⌜ ((j : Joins shape (now (area .entry)) i p) → Relinked shape (now (area .entry)) (now (area .exit)) (j .parts) (j .queues) (j .queue) (insert (ranks (j .parts)) p (j .queues (j .queue)))) ⌝ }
+{
+    let at = area::records_at(shape);
+    let word = area[i];
+    let tail = ring::join(&mut area[at..], ring::next_field(word), p);
+    area[i] = ring::with_next(word, tail);
+}
+
+// p moves from the queue whose tail stands at `from`, if it stands there, to the one whose tail stands at `to`, with the priority v; waits is 1 if that is a condition. Whether it does.
+pub fn move_process(
+    area: &mut [u16],
+    shape: Shape,
+    from: usize,
+    to: usize,
+    p: u16,
+    v: u16,
+    waits: u16,
+) -> bool
+    requires { ⌜ Moves shape (now area) from to p waits ⌝ }
+    requires { ⌜ v < 8 ⌝ }
+    ensures { λ r. ⌜ ((m : Moves shape (now (area .entry)) from to p waits) → Tried (m .stood) r (now (area .entry)) (now (area .exit)) (Becomes shape (now (area .entry)) (now (area .exit)) (sent p (m .to) (with (priority p) v (m .state))))) ⌝ }
+{
+    if !take_out(area, shape, from, p) {
+        return false;
+    }
+    area::set_rank(area, shape, p, v, waits);
+    put_in(area, shape, to, p);
+    true
+}
+
+// The same with the priority that p has.
+pub fn send(area: &mut [u16], shape: Shape, from: usize, to: usize, p: u16, waits: u16) -> bool
+    requires { ⌜ Moves shape (now area) from to p waits ⌝ }
+    ensures { λ r. ⌜ ((m : Moves shape (now (area .entry)) from to p waits) → Tried (m .stood) r (now (area .entry)) (now (area .exit)) (Becomes shape (now (area .entry)) (now (area .exit)) (sent p (m .to) (m .state)))) ⌝ }
+{
+    let v = area::get(area, places::priority(shape, p));
+    move_process(area, shape, from, to, p, v, waits)
+}
+
+// ---- dispatch
+
+// Who runs now, and whether its failed bit was set.
+struct Dispatched {
+    running: u16,
+    retry: u16,
+}
+
+// The first of ready runs, and is no longer failed.
+fn dispatch(area: &mut [u16], shape: Shape) -> Dispatched
+    requires { ⌜ Held shape (now area) ⌝ }
+    ensures { λ r. ⌜ ((s : State model) → Holds shape (now (area .entry)) s → (r .running ≡ first (s .queues ready)) × (r .retry ≡ retry (s .queues ready) (s .fields)) × Becomes shape (now (area .entry)) (now (area .exit)) (dispatched s)) ⌝ }
+{
+    let at = area::ready_at();
+    let first = first_in(area, shape, at);
+    area::put(area, places::running(), first);
+    if first == 0 {
+        return Dispatched {
+            running: 0,
+            retry: 0,
+        };
+    }
+    let failed = area::get(area, places::failed(shape, first));
+    area::put(area, places::failed(shape, first), 0);
+    Dispatched {
+        running: first,
+        retry: failed,
+    }
+}
