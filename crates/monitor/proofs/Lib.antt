@@ -1,3 +1,4 @@
 pub mod Performs
 pub mod History
 pub mod Replays
+pub mod Wire

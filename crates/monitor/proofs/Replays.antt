@@ -19,7 +19,7 @@ use Rattle.monitor.specs.declared.replay.Record.the-variants.{Made, Malf
 use Rattle.monitor.specs.Calls.{Performs}
 use Rattle.monitor.specs.History.{Run, Ends}
 use Rattle.monitor.specs.History.Run.{none, then}
-use Rattle.monitor.specs.Wire.{packed}
+use Rattle.monitor.specs.Wire.{numberOf}
 use Rattle.monitor.specs.Replay.{none2, none3, pick, made, operation, recorded, firstOf, follow, logged, Served, Replayed}
 use Rattle.monitor.proofs.History.{demand3}
 
@@ -38,26 +38,26 @@ run-length (then P R) = ap suc (run-length R)
 
 -- ---- the answers
 
-length-packed : (rs : List Answer) → length (map packed rs) ≡ length rs
-length-packed [] = refl
-length-packed (a ∷ rs) = ap suc (length-packed rs)
+length-numbers : (rs : List Answer) → length (map numberOf rs) ≡ length rs
+length-numbers [] = refl
+length-numbers (a ∷ rs) = ap suc (length-numbers rs)
 
-packed-more : (rs : List Answer) (a : Answer) → map packed (rs ++ (a ∷ [])) ≡ map packed rs ++ (packed a ∷ [])
-packed-more [] a = refl
-packed-more (b ∷ rs) a = ap (λ (l : List ℕ). packed b ∷ l) (packed-more rs a)
+numbers-more : (rs : List Answer) (a : Answer) → map numberOf (rs ++ (a ∷ [])) ≡ map numberOf rs ++ (numberOf a ∷ [])
+numbers-more [] a = refl
+numbers-more (b ∷ rs) a = ap (λ (l : List ℕ). numberOf b ∷ l) (numbers-more rs a)
 
 -- one answer more, written after those that are written
 stored : (rs : List Answer) (a : Answer) (out : List ℕ) (k : ℕ) → length rs ≡ k → k < length out
-    → set (map packed rs ++ drop k out) k (packed a) ≡ map packed (rs ++ (a ∷ [])) ++ drop (k + 1) out
+    → set (map numberOf rs ++ drop k out) k (numberOf a) ≡ map numberOf (rs ++ (a ∷ [])) ++ drop (k + 1) out
 stored rs a out k e h =
-    let same : length (map packed rs) ≡ k = length-packed rs ∙ e in
+    let same : length (map numberOf rs) ≡ k = length-numbers rs ∙ e in
     let step : suc k ≡ k + 1 = omega arith in
-    ap (λ (l : List ℕ). set (map packed rs ++ l) k (packed a)) (drop-cons out k 0 h)
-    ∙ ap (λ (j : ℕ). set (map packed rs ++ getD out k 0 ∷ drop (suc k) out) j (packed a)) (sym same)
-    ∙ set-append-seam (map packed rs) (getD out k 0) (drop (suc k) out) (packed a)
-    ∙ sym (append-snoc (map packed rs) (packed a) (drop (suc k) out))
-    ∙ ap (λ (l : List ℕ). l ++ drop (suc k) out) (sym (packed-more rs a))
-    ∙ ap (λ (j : ℕ). map packed (rs ++ (a ∷ [])) ++ drop j out) step
+    ap (λ (l : List ℕ). set (map numberOf rs ++ l) k (numberOf a)) (drop-cons out k 0 h)
+    ∙ ap (λ (j : ℕ). set (map numberOf rs ++ getD out k 0 ∷ drop (suc k) out) j (numberOf a)) (sym same)
+    ∙ set-append-seam (map numberOf rs) (getD out k 0) (drop (suc k) out) (numberOf a)
+    ∙ sym (append-snoc (map numberOf rs) (numberOf a) (drop (suc k) out))
+    ∙ ap (λ (l : List ℕ). l ++ drop (suc k) out) (sym (numbers-more rs a))
+    ∙ ap (λ (j : ℕ). map numberOf (rs ++ (a ∷ [])) ++ drop j out) step
 
 -- ---- a record of the log
 
@@ -91,7 +91,7 @@ made-apart e f = true≢false (ap isMade (sym e ∙ f))
 
 -- a call was read, made and answered
 pub served : {x : Record} {c : Call} {old new outOld outNew : List ℕ} {k w : ℕ} {a : Answer}
-    → x ≡ Made c → Performs c old new a → w ≡ packed a → outNew ≡ set outOld k w → Served x old new outOld outNew k true
+    → x ≡ Made c → Performs c old new a → w ≡ numberOf a → outNew ≡ set outOld k w → Served x old new outOld outNew k true
 served {x} {c} {old} {new} {outOld} {outNew} {k} {w} {a} e P p s = record {
   done = λ d f. (refl, (a, subst (λ (u : Call). Performs u old new a) (ap (callOf c) (sym e ∙ f)) P, s ∙ ap (λ (u : ℕ). set outOld k u) p));
   not-done = λ f. absurd (made-apart e f);
@@ -160,7 +160,7 @@ pub record Doing (log old now outOld outNow : List ℕ) (k : ℕ) : Type 0 where
   pub many : length answers ≡ k
   pub room : k ≤ length outOld
   pub rest : logged (length outOld) log ≡ calls ++ logged (length outOld - k) (drop (k * 4) log)
-  pub written : outNow ≡ map packed answers ++ drop k outOld
+  pub written : outNow ≡ map numberOf answers ++ drop k outOld
 
 pub doing-start : (log old out : List ℕ) → Doing log old old out out 0
 doing-start log old out = record { calls = []; answers = []; run = none; many = refl; room = omega arith; rest = ap (λ (j : ℕ). logged j log) (omega arith); written = refl }
@@ -168,8 +168,8 @@ doing-start log old out = record { calls = []; answers = []; run = none; many = 
 module _ {log old now outOld outNow : List ℕ} {k : ℕ} (D : Doing log old now outOld outNow k) where
   pub doing-long : length outNow ≡ length outOld
   doing-long =
-      let w = ap length (D .written) ∙ length-append (map packed (D .answers)) (drop k outOld) in
-      let p = length-packed (D .answers) in
+      let w = ap length (D .written) ∙ length-append (map numberOf (D .answers)) (drop k outOld) in
+      let p = length-numbers (D .answers) in
       let m = D .many in
       let d = length-drop k outOld in
       let r = D .room in
@@ -222,7 +222,7 @@ module _ {log old now outOld outNow : List ℕ} {k : ℕ} (D : Doing log old now
               room = omega arith;
               rest = D .rest ∙ ap (λ (u : List Call). D .calls ++ u) (logged-next h ∙ ap (λ (x : Record). follow x (logged (length outOld - (k + 1)) (drop ((k + 1) * 4) log))) e)
                   ∙ sym (append-snoc (D .calls) c (logged (length outOld - (k + 1)) (drop ((k + 1) * 4) log)));
-              written = d .2 ∙ ap (λ (u : List ℕ). set u k (packed (d .0))) (D .written) ∙ stored (D .answers) (d .0) outOld k m (omega arith);
+              written = d .2 ∙ ap (λ (u : List ℕ). set u k (numberOf (d .0))) (D .written) ∙ stored (D .answers) (d .0) outOld k m (omega arith);
             }
 
     -- the record is malformed: the log's calls are made

@@ -12,7 +12,7 @@ use Rattle.monitor.specs.declared.replay.Record.{Record}
 use Rattle.monitor.specs.declared.replay.Record.the-variants.{Made, Malformed}
 use Rattle.monitor.specs.Calls.{Performs}
 use Rattle.monitor.specs.History.{Run}
-use Rattle.monitor.specs.Wire.{packed}
+use Rattle.monitor.specs.Wire.{numberOf}
 
 -- ---- a record
 
@@ -70,7 +70,7 @@ logged (suc room) log = follow (firstOf log) (logged room (drop 4 log))
 
 -- one record, and the place of its answer: a call is made and its answer is written, or nothing is done
 pub record Served (x : Record) (old new outOld outNew : List ℕ) (k : ℕ) (r : Bool) : Type 0 where
-  pub done : (c : Call) → x ≡ Made c → (r ≡ true) × ((a : Answer) × Performs c old new a × (outNew ≡ set outOld k (packed a)))
+  pub done : (c : Call) → x ≡ Made c → (r ≡ true) × ((a : Answer) × Performs c old new a × (outNew ≡ set outOld k (numberOf a)))
   pub not-done : x ≡ Malformed → (r ≡ false) × (new ≡ old) × (outNew ≡ outOld)
 
 -- the calls of the log are made one after the other, as many as there is room for answers; r of them are made, and their answers are written in
@@ -79,4 +79,4 @@ pub record Replayed (log oldArea newArea oldAnswers newAnswers : List ℕ) (r : 
   pub answers : List Answer
   pub run : Run (logged (length oldAnswers) log) oldArea newArea answers
   pub count : r ≡ length (logged (length oldAnswers) log)
-  pub written : newAnswers ≡ map packed answers ++ drop r oldAnswers
+  pub written : newAnswers ≡ map numberOf answers ++ drop r oldAnswers

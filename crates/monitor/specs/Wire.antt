@@ -1,28 +1,42 @@
--- An answer as one number: ten bits a field, code lowest. Assumes nothing.
-use Prim.Native.Nat.{ℕ, _+_, _*_, _/_, _%_, _^_}
+-- Answers as numbers: a list of fields in one number, w bits a field, the first lowest. Assumes nothing.
+use Prim.Native.Nat.{ℕ, zero, suc, _+_, _*_, _/_, _%_, _^_}
+use native.Mathlib.Nat.{div-div-eq-div-mul}
 use mathlib.Core.Path.{_≡_}
+use mathlib.Core.List.{List, [], _∷_}
+use lib.ListN.{length}
 use Rattle.model.specs.declared.Answer.{Answer}
 use Rattle.queues.specs.declared.listing.Listed.{Listed}
 
--- the number that stands for an answer
-abbrev pub packed : Answer → ℕ
-packed a = a .code + a .running * 2 ^ 10 + a .retry * 2 ^ 20 + a .mark * 2 ^ 30 + a .moved * 2 ^ 40
+-- the number that has w bits of each field, the first lowest
+abbrev pub packed : ℕ → List ℕ → ℕ
+packed w [] = 0
+packed w (x ∷ xs) = x % 2 ^ w + 2 ^ w * packed w xs
 
--- the fields that a number stands for
-abbrev pub unpacked : ℕ → Answer
-unpacked r = record { code = r % 2 ^ 10; running = r / 2 ^ 10 % 2 ^ 10; retry = r / 2 ^ 20 % 2 ^ 10; mark = r / 2 ^ 30 % 2 ^ 10; moved = r / 2 ^ 40 % 2 ^ 10 }
+-- the first k fields of w bits that a number has, the lowest first
+unfoldable pub unpacked : ℕ → ℕ → ℕ → List ℕ
+unpacked w zero r = []
+unpacked w (suc k) r = r % 2 ^ w ∷ unpacked w k (r / 2 ^ w)
 
--- r is the number of this answer, and each field comes back out of it
-pub record Carries (r : ℕ) (a : Answer) : Type 0 where
-  pub number : r ≡ packed a
-  pub fields : unpacked r ≡ a
+-- r is the number of these fields, and each comes back out of it
+pub record Carries (w r : ℕ) (xs : List ℕ) : Type 0 where
+  pub number : r ≡ packed w xs
+  pub back : unpacked w (length xs) r ≡ xs
 
--- List's answer: code and count
-abbrev pub packedList : Listed → ℕ
-packedList l = l .code + l .count * 2 ^ 10
+-- ---- what crosses
 
--- r is the number of this code and count, and both come back out of it
-pub record CarriesList (r code count : ℕ) : Type 0 where
-  pub number : r ≡ code + count * 2 ^ 10
-  pub low : r % 2 ^ 10 ≡ code
-  pub high : r / 2 ^ 10 % 2 ^ 10 ≡ count
+-- an answer's five
+abbrev pub fields : Answer → List ℕ
+fields a = a .code ∷ a .running ∷ a .retry ∷ a .mark ∷ a .moved ∷ []
+
+-- an answer's number: ten bits a field, code lowest
+abbrev pub numberOf : Answer → ℕ
+numberOf a = packed 10 (fields a)
+
+-- List's two
+abbrev pub listFields : Listed → List ℕ
+listFields l = l .code ∷ l .count ∷ []
+
+-- where an answer's five stand: code in bits 0 to 9, running in 10 to 19, retry in 20 to 29, mark in 30 to 39, moved in 40 to 49
+pub bits-of-five : (r : ℕ) → unpacked 10 5 r ≡ (r % 2 ^ 10 ∷ r / 2 ^ 10 % 2 ^ 10 ∷ r / 2 ^ 20 % 2 ^ 10 ∷ r / 2 ^ 30 % 2 ^ 10 ∷ r / 2 ^ 40 % 2 ^ 10 ∷ [])
+unfolding unpacked
+bits-of-five r = simp div-div-eq-div-mul

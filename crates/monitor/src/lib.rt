@@ -4,12 +4,13 @@ use model::Call;
 use model::Shape;
 use queues::listing::Listed;
 ghost use mathlib.Core.Path.{_≡_};
+ghost use Prim.Native.Nat.{_+_, _*_, _%_, _^_, _<_};
 ghost use Rattle.model.specs.Machine.{State, model};
 ghost use Rattle.model.specs.Valid.{Valid};
 ghost use Rattle.area.specs.Holds.{Holds};
 ghost use Rattle.area.specs.Calls.{Stands, Does};
 ghost use Rattle.monitor.specs.Calls.{Performs, ListsOn};
-ghost use Rattle.monitor.specs.Wire.{packed, packedList};
+ghost use Rattle.monitor.specs.Wire.{packed, listFields, numberOf};
 
 pub mod replay;
 
@@ -67,27 +68,30 @@ pub fn list(area: &[u16], kind: u16, number: u16, buffer: &mut [u16]) -> Listed
 
 // ---- answers as numbers
 
-// A 16-bit number as a wide one.
-fn wide(x: u16) -> u64
-    ensures { λ r. ⌜ r ≡ x ⌝ }
+// As many numbers as ten bits hold.
+const TEN: u64 = 1024;
+
+// Ten bits of a field, and the others above them.
+fn above(low: u16, high: u64) -> u64
+    requires { ⌜ high < 2 ^ 54 ⌝ }
+    ensures { λ r. ⌜ r ≡ low % 2 ^ 10 + 2 ^ 10 * high ⌝ }
 {
-    x as u64
+    low as u64 % TEN + TEN * high
 }
 
 // Ten bits a field, code lowest.
 pub fn pack(a: Answer) -> u64
-    ensures { λ r. ⌜ r ≡ packed a ⌝ }
+    ensures { λ r. ⌜ r ≡ numberOf a ⌝ }
 {
-    wide(a.code)
-        + wide(a.running) * 1024
-        + wide(a.retry) * 1048576
-        + wide(a.mark) * 1073741824
-        + wide(a.moved) * 1099511627776
+    above(
+        a.code,
+        above(a.running, above(a.retry, above(a.mark, above(a.moved, 0)))),
+    )
 }
 
 // Code and count, ten bits each, code lowest.
 pub fn pack_list(l: Listed) -> u64
-    ensures { λ r. ⌜ r ≡ packedList l ⌝ }
+    ensures { λ r. ⌜ r ≡ packed 10 (listFields l) ⌝ }
 {
-    wide(l.code) + wide(l.count) * 1024
+    above(l.code, above(l.count, 0))
 }
