@@ -26,11 +26,11 @@ use Rattle.monitor.specs.Calls.{Performs, ListsOn}
 use Rattle.monitor.specs.Wire.{packed, fields, listFields, numberOf}
 use Rattle.monitor.proofs.History.{start-accepted}
 use Rattle.monitor.proofs.Wire.{Fit, carries}
-use Rattle.kernel.specs.Exports.{Tells, Crosses, Begins, Writes, Judges}
+use Rattle.kernel.specs.Exports.{Conveys, Crosses, Begins, Writes, Judges}
 
 -- an export's contract, whatever the call: from what is promised of the answer, and the answer's number
-tells : {A : Type 0} {w r : ℕ} (fieldsOf : A → List ℕ) {promised : A → Type 0} (a : A) → promised a → r ≡ packed w (fieldsOf a) → Fit w (fieldsOf a) → Tells w fieldsOf promised r
-tells {w = w} fieldsOf a p e h = record { answer = a; keeps = p; carries = carries w (fieldsOf a) e h }
+conveys : {A : Type 0} {w r : ℕ} (fieldsOf : A → List ℕ) {promised : A → Type 0} (a : A) → promised a → r ≡ packed w (fieldsOf a) → Fit w (fieldsOf a) → Conveys w fieldsOf promised r
+conveys {w = w} fieldsOf a p e h = record { answer = a; keeps = p; carries = carries w (fieldsOf a) e h }
 
 fit? : (w : ℕ) (xs : List ℕ) → Dec (Fit w xs)
 fit? w [] = yes tt
@@ -58,7 +58,7 @@ performs-fits {c} {old} {a = a} P =
     (λ h. rw (P .unsound h .0) (refusal-fits 1 (omega arith)))
 
 pub crosses : {c : Call} {old new : List ℕ} {a : Answer} {r : ℕ} → Performs c old new a → r ≡ numberOf a → Crosses c old new r
-crosses {a = a} P e = tells fields a P e (performs-fits P)
+crosses {a = a} P e = conveys fields a P e (performs-fits P)
 
 -- ---- Start
 
@@ -79,7 +79,7 @@ starts-fits {n} {bytes} {old} {a = a} S =
     (λ h. rw (S .refused h .0) (refusal-fits _ (start-below n bytes (length old))))
 
 pub begins : {n : Shape} {bytes old new : List ℕ} {a : Answer} {r : ℕ} → Starts n bytes old new a → r ≡ numberOf a → Begins n bytes old new r
-begins {a = a} S e = tells fields a S e (starts-fits S)
+begins {a = a} S e = conveys fields a S e (starts-fits S)
 
 -- ---- List
 
@@ -97,7 +97,7 @@ module _ {kind number : ℕ} {ws old new : List ℕ} {l : Listed} (L : ListsOn k
           (omega arith, (omega arith, tt))
 
   pub writes : {r : ℕ} → r ≡ packed 10 (listFields l) → Writes kind number ws old new r
-  writes e = tells listFields l L e (either 10 (listFields l) listed-fits (λ h. let u = L .unsound h in (omega arith, (omega arith, tt))))
+  writes e = conveys listFields l L e (either 10 (listFields l) listed-fits (λ h. let u = L .unsound h in (omega arith, (omega arith, tt))))
 
 -- ---- Sound
 

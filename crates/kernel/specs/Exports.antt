@@ -10,22 +10,22 @@ use Rattle.monitor.specs.Calls.{Performs, ListsOn}
 use Rattle.monitor.specs.Wire.{Carries, fields, listFields}
 
 -- r carries an answer as promised: it is the number of the answer's fields, w bits each, and every field comes back out of it
-pub record Tells {A : Type 0} (w : ℕ) (fieldsOf : A → List ℕ) (promised : A → Type 0) (r : ℕ) : Type 0 where
+pub record Conveys {A : Type 0} (w : ℕ) (fieldsOf : A → List ℕ) (promised : A → Type 0) (r : ℕ) : Type 0 where
   pub answer : A
   pub keeps : promised answer
   pub carries : Carries w r (fieldsOf answer)
 
 -- one of the nine: an unsound area is refused by 1 and left as it is; a sound one gives the rule's answer and words
 abbrev pub Crosses : Call → List ℕ → List ℕ → ℕ → Type 0
-Crosses c old new r = Tells 10 fields (Performs c old new) r
+Crosses c old new r = Conveys 10 fields (Performs c old new) r
 
 -- Start: refused, it changes nothing; accepted, it gives the started state's answer and words
 abbrev pub Begins : Shape → List ℕ → List ℕ → List ℕ → ℕ → Type 0
-Begins n bytes old new r = Tells 10 fields (Starts n bytes old new) r
+Begins n bytes old new r = Conveys 10 fields (Starts n bytes old new) r
 
 -- List: refused by 1, 7, 5 in this order, the buffer is as it was; else the queue stands at its front, and the rest is as it was
 abbrev pub Writes : ℕ → ℕ → List ℕ → List ℕ → List ℕ → ℕ → Type 0
-Writes kind number ws old new r = Tells 10 listFields (ListsOn kind number ws old new) r
+Writes kind number ws old new r = Conveys 10 listFields (ListsOn kind number ws old new) r
 
 -- Sound: 1 exactly for a sound area, else 0
 pub record Judges (ws : List ℕ) (r : ℕ) : Type 0 where

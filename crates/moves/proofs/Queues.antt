@@ -1,5 +1,5 @@
 -- The queues of an area: one read from its tail and the records; its first; and dispatch over ready. Assumes nothing.
-use Prim.Native.Nat.{ℕ, _-_, _/_, _%_, _≤_, _<_}
+use Prim.Native.Nat.{ℕ, _-_, _/_, _%_, _≤_}
 use native.Mathlib.Omega.{arith}
 use borrow.Rule.Slice.PartMut.{midOf}
 use mathlib.Core.Path.{_≡_, refl, sym, ap, _∙_}
@@ -13,7 +13,6 @@ use Rattle.model.specs.Queue.Queue.{ready}
 use Rattle.model.specs.Field.{put}
 use Rattle.model.specs.Field.Field.{running, failed}
 use Rattle.model.specs.Machine.{State, model, retry}
-use Rattle.model.specs.Valid.{room}
 use Rattle.model.proofs.Tests.{EqCase, holds, fails, eqb-case, eqb-yes, inside-bounds}
 use Rattle.ring.specs.Ring.{Ring}
 use Rattle.area.specs.Layout.{recordsAt, at}
@@ -49,10 +48,6 @@ module _ {n : Shape} {ws : List ℕ} {s : State model} (H : Holds n ws s) where
       go : EqCase r 0 → r ≤ n .processes
       go (holds d z) = omega arith
       go (fails d z) = inside-bounds (n .processes) r (first-process q e d) .1
-
-  -- so it may run
-  pub first-runs : (q : Queue) {r : ℕ} → r ≡ first (s .queues q) → r < room n running
-  first-runs q e = let h = first-small q e in omega arith
 
   -- no process is 0, so ready is empty where its first is 0
   none : (xs : List ℕ) → s .queues ready ≡ xs → first xs ≡ 0 → xs ≡ []

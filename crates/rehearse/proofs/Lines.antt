@@ -9,11 +9,11 @@ use Rattle.model.specs.declared.Call.{Call}
 use Rattle.model.specs.declared.Shape.{Shape}
 use Rattle.start.specs.Start.{Starts}
 use Rattle.monitor.specs.Calls.{Performs}
-use Rattle.script.specs.declared.read.Parsed.{Parsed}
-use Rattle.script.specs.declared.read.Parsed.the-variants as parsed
+use Rattle.script.specs.declared.Parsed.{Parsed}
+use Rattle.script.specs.declared.Parsed.the-variants as parsed
 use Rattle.script.specs.Line.{Meaning}
 use Rattle.script.specs.Line.Meaning.{call, none}
-use Rattle.script.specs.Print.{printed}
+use Rattle.print.specs.Print.{printed}
 use Rattle.script.specs.Read.{Tells}
 use Rattle.rehearse.specs.Serve.{Serves}
 

@@ -7,7 +7,7 @@ use Rattle.start.specs.Start.{Starts}
 use Rattle.monitor.specs.Calls.{Performs}
 use Rattle.script.specs.Line.{Meaning}
 use Rattle.script.specs.Line.Meaning.{call, start, none}
-use Rattle.script.specs.Print.{printed}
+use Rattle.print.specs.Print.{printed}
 use Rattle.rehearse.specs.declared.Turn.{Turn}
 use Rattle.rehearse.specs.declared.Turn.the-variants.{More, Done}
 

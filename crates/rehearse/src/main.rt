@@ -28,11 +28,11 @@ fn serve(
     match script::parse(line, table, bytes) {
         Parsed::Call(call) => {
             let answer = monitor::perform(area, call);
-            script::print(answer, out)
+            print::line(answer, out)
         }
         Parsed::Start(shape, count) => {
             let answer = start::start(area, shape, &bytes[..count]);
-            script::print(answer, out)
+            print::line(answer, out)
         }
         Parsed::Nothing => {
             out[0] = b'?';

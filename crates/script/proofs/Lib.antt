@@ -1,6 +1,3 @@
-pub mod Words
-pub mod Values
 pub mod Names
-pub mod Numbers
+pub mod Meanings
 pub mod Starts
-pub mod Digits

@@ -6,11 +6,11 @@ use native.Mathlib.Omega.{arith}
 use lib.ListN.{length, getD, drop}
 use types.Run.{OneOf, miss}
 use denote.Enum.Declared.{tagOf}
-use Rattle.script.specs.declared.read.Name.{Name}
-use Rattle.script.specs.declared.read.Name.the-variants.{Start, Enter, Exit, Wait, Notify, Broadcast, Naked, Requeue, SetPriority, Tick, Unknown}
+use Rattle.script.specs.declared.Name.{Name}
+use Rattle.script.specs.declared.Name.the-variants.{Start, Enter, Exit, Wait, Notify, Broadcast, Naked, Requeue, SetPriority, Tick, Unknown}
 use Rattle.script.specs.Line.{said}
 use Rattle.script.specs.Line.Meaning.{none}
-use Rattle.script.proofs.read.Name.{the-type}
+use Rattle.script.proofs.Name.{the-type}
 
 -- ---- a row of numbers by its length
 

@@ -6,9 +6,9 @@ use mathlib.Core.List.{List, [], _∷_}
 use native.Mathlib.Omega.{arith}
 use lib.ListN.{length, getD, take, drop}
 use lib.Seq.{take-length}
+use Rattle.words.specs.Read.{Bytes}
 use Rattle.script.specs.Line.{started}
 use Rattle.script.specs.Line.Meaning.{start, none}
-use Rattle.script.specs.Read.{Bytes}
 
 pub started-all : (ns bytes : List ℕ) (ok : Bool) → 4 ≤ length ns → Bytes ok (take (length ns - 4) (drop 4 ns)) bytes → ok ≡ true →
     started ns ≡ start (record { processes = getD ns 0 0; locks = getD ns 1 0; conditions = getD ns 2 0; parks = getD ns 3 0 }) (take (length ns - 4) bytes)

@@ -1,4 +1,4 @@
--- Computed examples: the lines of 01 and of its edges with their meanings, and an answer's line. By computation. Assumes nothing.
+-- Computed examples: the lines of 01 and of its edges with their meanings. By computation. Assumes nothing.
 use Prim.Native.Nat.{ℕ}
 use mathlib.Core.Path.{_≡_, refl}
 use mathlib.Core.List.{List, [], _∷_, map}
@@ -6,7 +6,6 @@ use Rattle.model.specs.declared.Shape.{Shape}
 use Rattle.model.specs.declared.Call.the-variants.{Enter, Exit, Wait, Notify, Broadcast, Naked, Requeue, SetPriority, Tick}
 use Rattle.script.specs.Line.{Meaning, meaning}
 use Rattle.script.specs.Line.Meaning.{call, start, none}
-use Rattle.script.specs.Print.{decimal, printed}
 
 -- P, L, C, K
 abbrev shape : ℕ → ℕ → ℕ → ℕ → Shape
@@ -77,14 +76,3 @@ no-calls : Holds
     ∷ (63 ∷ [], none)
     ∷ [])
 no-calls = refl
-
--- the answer to the sixth line, and the widest answer
-answers : map printed (record { code = 0; running = 2; retry = 1; mark = 0; moved = 1 } ∷ record { code = 65535; running = 10000; retry = 9999; mark = 100; moved = 10 } ∷ [])
-    ≡ (48 ∷ 32 ∷ 50 ∷ 32 ∷ 49 ∷ 32 ∷ 48 ∷ 32 ∷ 49 ∷ 10 ∷ []) ∷ (54 ∷ 53 ∷ 53 ∷ 51 ∷ 53 ∷ 32 ∷ 49 ∷ 48 ∷ 48 ∷ 48 ∷ 48 ∷ 32 ∷ 57 ∷ 57 ∷ 57 ∷ 57 ∷ 32 ∷ 49 ∷ 48 ∷ 48 ∷ 32 ∷ 49 ∷ 48 ∷ 10 ∷ []) ∷ []
-answers = refl
-
--- where a digit is added
-widths : map decimal (0 ∷ 9 ∷ 10 ∷ 99 ∷ 100 ∷ 999 ∷ 1000 ∷ 9999 ∷ 10000 ∷ 65535 ∷ [])
-    ≡ (48 ∷ []) ∷ (57 ∷ []) ∷ (49 ∷ 48 ∷ []) ∷ (57 ∷ 57 ∷ []) ∷ (49 ∷ 48 ∷ 48 ∷ []) ∷ (57 ∷ 57 ∷ 57 ∷ []) ∷ (49 ∷ 48 ∷ 48 ∷ 48 ∷ []) ∷ (57 ∷ 57 ∷ 57 ∷ 57 ∷ [])
-    ∷ (49 ∷ 48 ∷ 48 ∷ 48 ∷ 48 ∷ []) ∷ (54 ∷ 53 ∷ 53 ∷ 51 ∷ 53 ∷ []) ∷ []
-widths = refl

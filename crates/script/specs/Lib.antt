@@ -1,4 +1,3 @@
 pub mod Line
 pub mod Read
-pub mod Print
 pub mod Examples

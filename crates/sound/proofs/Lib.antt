@@ -1,9 +1,4 @@
-pub mod Marks
-pub mod Steps
-pub mod Walks
 pub mod Queues
-pub mod Tests
-pub mod Chains
 pub mod Lists
 pub mod Visits
 pub mod Whole

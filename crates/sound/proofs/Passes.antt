@@ -16,6 +16,7 @@ use Rattle.model.specs.History.{isCondition}
 use Rattle.model.proofs.Tests.{eqb-yes, eqb-no, inside-bounds}
 use Rattle.model.proofs.Lists.{member-here}
 use Rattle.model.proofs.Places.{stands-at, waiting-is}
+use Rattle.ring.specs.Link as links
 use Rattle.ring.specs.Ring.{lastOf, Linked}
 use Rattle.area.specs.Layout.{at}
 use Rattle.area.specs.Layout.Part.{kept, tail, next, waiting}
@@ -27,13 +28,13 @@ use Rattle.area.specs.Sound.{Sound}
 use Rattle.area.proofs.Whole.{Counts, counts-in}
 use Rattle.area.proofs.Rings.{last-member, ring-ext, member-inside}
 use Rattle.area.proofs.States.{Words, chain-read}
-use Rattle.sound.specs.Walk.{linkIn, nextIn}
-use Rattle.sound.specs.Parts.{Counted, Runs}
+use Rattle.heads.specs.First.{Counted, Runs}
+use Rattle.heads.proofs.Tests.{Headed}
+use Rattle.members.proofs.Tests.{Fits}
+use Rattle.members.proofs.Chains.{Member, member-all}
 use Rattle.sound.proofs.Queues.{kindOf, tailWord, holderWord}
-use Rattle.sound.proofs.Tests.{Fits, Headed}
-use Rattle.sound.proofs.Chains.{Member, member-all}
 use Rattle.sound.proofs.Lists.{hits, every, every-once}
-use Rattle.sound.proofs.Visits.{reading, total, Visited, link-word, flags-word, timer-word, next-part, total-hits}
+use Rattle.sound.proofs.Visits.{reading, total, Visited, link-word, flags-word, timer-word, next-part, priority-part, total-hits}
 use Rattle.sound.proofs.Whole.{Whole, falling-ext}
 
 module _ (ws : List ℕ) (small : Words ws) (S : Sound ws) where
@@ -121,10 +122,10 @@ module _ (ws : List ℕ) (small : Words ws) (S : Sound ws) where
   is-inside : (x : ℕ) (q : Queue) → member x (reading ws q) ≡ true → inside P x ≡ true
   is-inside x q m = member-inside n (stateOf ws) (S .valid .placed) x q m
 
-  linked : (q : Queue) → exists n q ≡ true → Linked (nextIn rs) (tailWord ws q / 8) (reading ws q)
+  linked : (q : Queue) → exists n q ≡ true → Linked (links.next rs) (tailWord ws q / 8) (reading ws q)
   linked q h =
-      subst (λ (t : ℕ). Linked (nextIn rs) t (reading ws q)) (ends q h)
-      (ring-ext nx (nextIn rs) (reading ws q) (λ x m. next-part ws x (is-inside x q m))
+      subst (λ (t : ℕ). Linked (links.next rs) t (reading ws q)) (ends q h)
+      (ring-ext nx (links.next rs) (reading ws q) (λ x m. next-part ws x (is-inside x q m))
       (subst (λ (t : ℕ). Linked nx t (reading ws q)) (sym (S .closed q)) (go (eqb (partsOf n ws (tail q)) 0))))
     where
       nx : ℕ → ℕ
@@ -190,19 +191,19 @@ module _ (ws : List ℕ) (small : Words ws) (S : Sound ws) where
       linked = linked q h;
       ends = ends q h;
       members = member-all (Member rs P (kindOf q) (holderWord ws q / 8)) (reading ws q) (λ x m. record { within = is-inside x q m; free = free x q h m; fits = rw (link-word ws x, flags-word ws x, timer-word ws x) (fits x q m) });
-      falls = falling-ext (priorities (stateOf ws .fields)) (λ x. linkIn rs x / 8192) (reading ws q) level (S .valid .placed .falls q);
+      falls = falling-ext (priorities (stateOf ws .fields)) (links.priority rs) (reading ws q) level (S .valid .placed .falls q);
     };
   }
     where
-      level : (x : ℕ) → member x (reading ws q) ≡ true → partsOf n ws (kept (priority x)) ≡ linkIn rs x / 8192
-      level x m = let s = small (at n (Link x)) in rw (is-inside x q m, link-word ws x) (omega arith)
+      level : (x : ℕ) → member x (reading ws q) ≡ true → partsOf n ws (kept (priority x)) ≡ links.priority rs x
+      level x m = priority-part ws x small (is-inside x q m)
 
   -- ---- running
 
   runs : Runs ws rs P
   runs = go (reading ws ready) (linked ready refl) (ends ready refl) (λ x m. is-inside x ready m) (S .valid .runs)
     where
-      go : (ys : List ℕ) → Linked (nextIn rs) (getD ws 5 0 / 8) ys → lastOf 0 ys ≡ getD ws 5 0 / 8 → ((x : ℕ) → member x ys ≡ true → inside P x ≡ true) → getD ws 4 0 / 8 % 1024 ≡ first ys → Runs ws rs P
+      go : (ys : List ℕ) → Linked (links.next rs) (getD ws 5 0 / 8) ys → lastOf 0 ys ≡ getD ws 5 0 / 8 → ((x : ℕ) → member x ys ≡ true → inside P x ≡ true) → getD ws 4 0 / 8 % 1024 ≡ first ys → Runs ws rs P
       go [] l e m f =
           let t = S .tidy Running refl in
           record { nobody = λ z. omega arith; tail = tail-small ready refl; somebody = λ z. absurd (z (sym e)) }
@@ -212,7 +213,7 @@ module _ (ws : List ℕ) (small : Words ws) (S : Sound ws) where
           let u = inside-bounds P y i in
           let last-in = inside-bounds P (lastOf y ys) (m (lastOf y ys) (last-member y ys)) in
           let o = l .0 in
-          let still : linkIn rs y / 4 % 2 ≡ 0 = rw (link-word ws y) (rw (f, i) at (S .valid .steady)) in
+          let still : links.link rs y / 4 % 2 ≡ 0 = rw (link-word ws y) (rw (f, i) at (S .valid .steady)) in
           record {
             nobody = λ z. absurd (omega arith);
             tail = tail-small ready refl;

@@ -1,5 +1,5 @@
 -- The queues of a kind, one after the other: how a pass over their words goes on or breaks off, and that it visits the queues of the area. Assumes nothing.
-use Prim.Native.Nat.{ℕ, zero, suc, _+_, _-_, _*_, _/_, _%_, _≤_, _<_}
+use Prim.Native.Nat.{ℕ, zero, suc, _+_, _-_, _*_, _/_, _≤_, _<_}
 use native.Mathlib.Numerals.{add-one}
 use native.Mathlib.Decide.{ℕ-discrete}
 use native.Mathlib.Omega.{arith}
@@ -8,29 +8,25 @@ use mathlib.Core.Path.{_≡_, refl, sym, _∙_, ap}
 use mathlib.Core.Bool.{Bool, true, false, not, cond}
 use mathlib.Core.List.{List, [], _∷_, _++_}
 use mathlib.Core.Option.{Option, none, some}
-use lib.Dec.{leb}
 use lib.ListN.{length, getD, drop, length-drop}
 use lib.Seq.{getD-drop}
-use borrow.Author.Tests.{leb-true, not-true, not-false}
+use borrow.Author.Tests.{not-true, not-false}
 use Rattle.model.specs.declared.Shape.{Shape}
 use Rattle.model.specs.Queue.{Queue}
 use Rattle.model.specs.Queue.Queue.{ready, park, lock, condition}
-use Rattle.model.proofs.Tests.{and-split}
 use Rattle.area.specs.Layout.{size, at, locksAt, conditionsAt, recordsAt}
 use Rattle.area.specs.Layout.Slot.{Tail, Holder}
 use Rattle.area.specs.Reading.{shapeOf}
 use Rattle.area.specs.Rings.{records}
 use Rattle.area.proofs.Records.{part-lent}
 use Rattle.area.proofs.States.{Words}
-use Rattle.sound.specs.Walk.{ringed, heading, headAt, holderIn, queued, then, passed, Met, Told}
-use Rattle.sound.specs.Parts.{Decides, Counted, Runs}
-use Rattle.sound.proofs.Walks.{told-none, told-some}
+use Rattle.heads.specs.First.{Decides, Counted, Runs}
+use Rattle.heads.specs.Heads.{heading, headAt, holderIn}
+use Rattle.members.specs.Walk.{ringed, Met, Told}
+use Rattle.members.proofs.Walks.{told-none, told-some}
+use Rattle.sound.specs.Passed.{queued, then, passed}
 
 -- ---- a pass underway
-
-pub heading-tail : (P k w v : ℕ) → heading P k w v ≡ true → w / 8 ≤ P
-unfolding heading
-heading-tail P k w v e = leb-true (w / 8) P (and-split (leb (w / 8) P) _ e .0)
 
 -- the first i queues are passed, of those that js₀ leaves
 pub record Passed (hs rs : List ℕ) (P k i : ℕ) (ms : List ℕ) (m : ℕ) (js₀ : List ℕ) : Type 0 where
@@ -214,11 +210,7 @@ module _ (ws : List ℕ) where
 
 -- ---- the words of a kind and the records, lent
 
--- the counts that the words say
-pub counts-said : {n : Shape} (ws : List ℕ) → n ≡ shapeOf ws
-    → (n .processes ≡ getD ws 0 0) × (n .locks ≡ getD ws 1 0 / 256) × (n .conditions ≡ getD ws 1 0 % 256) × (n .parks ≡ getD ws 2 0 / 4096)
-counts-said ws e = rw e (refl, refl, refl, refl)
-
+-- an area is as long as its counts ask
 pub counted-long : {n : Shape} {ws : List ℕ} → n ≡ shapeOf ws → Counted ws → size n ≤ length ws
 counted-long e c = rw e (c .long)
 
@@ -239,8 +231,14 @@ module _ (ws : List ℕ) {n : Shape} (e : n ≡ shapeOf ws) {r : ℕ} (there : r
       rw (passed-visits ws k h (numberOf (shapeOf ws) k) js) at (u js T)
 
   module _ (c : Counted ws) where
-    pub lent-records : 3 * n .processes ≤ length (from ws r)
+    few : n .processes < 1024
+    few = let p : n .processes ≤ 1023 = rw e (c .processes) in omega arith
+
+    lent-records : 3 * n .processes ≤ length (from ws r)
     lent-records = rw (there, part-lent (recordsAt n) ws, length-drop (recordsAt n) ws) (let l = counted-long e c in omega arith)
+
+    pub lent-first : (6 ≤ length ws) × (n .processes < 1024) × (3 * n .processes ≤ length (from ws r))
+    lent-first = (c .header, few, lent-records)
 
     number-small : (k : ℕ) → Words ws → numberOf n k < 1024
     number-small k small = rw e (go k)
@@ -260,5 +258,4 @@ module _ (ws : List ℕ) {n : Shape} (e : n ≡ shapeOf ws) {r : ℕ} (there : r
     pub lent-within : Words ws → (k : ℕ) → k ≤ 2 → {a : ℕ} → a ≡ begins n k
         → (n .processes < 1024) × (3 * n .processes ≤ length (from ws r)) × (numberOf n k < 1024) × (headAt k (numberOf n k) ≤ length (from ws a))
     lent-within small k h here =
-        let p : n .processes ≤ 1023 = rw e (c .processes) in
-        (omega arith, lent-records, number-small k small, rw (here, part-lent (begins n k) ws, length-drop (begins n k) ws) (heads-long k h))
+        (few, lent-records, number-small k small, rw (here, part-lent (begins n k) ws, length-drop (begins n k) ws) (heads-long k h))

@@ -10,20 +10,23 @@ use lib.ListN.{getD}
 use lib.Seq.{getD-drop}
 use Rattle.model.specs.Queue.{Queue, inside, bit, same, exists, member, count, All}
 use Rattle.model.specs.Queue.Queue.{ready}
+use Rattle.model.specs.Field.Field.{priority}
 use Rattle.model.proofs.Tests.{inside-bounds}
 use Rattle.model.proofs.Lists.{member-count, absent-count, at-most}
+use Rattle.ring.specs.Link as links
+use Rattle.ring.specs.Link.{slot}
 use Rattle.area.specs.Layout.{at, recordsAt}
-use Rattle.area.specs.Layout.Part.{tail, next}
+use Rattle.area.specs.Layout.Part.{kept, tail, next}
 use Rattle.area.specs.Layout.Slot.{Link, Flags, Timer}
 use Rattle.area.specs.Reading.{shapeOf, partsOf, queueOf}
 use Rattle.area.specs.Rings.{records}
-use Rattle.area.proofs.Rings.{Once, ring-ext}
+use Rattle.area.proofs.Rings.{Once, ring-ext, In}
 use Rattle.area.proofs.States.{Words, read-ring}
-use Rattle.sound.specs.Walk.{recordAt, linkIn, nextIn, heading, then}
+use Rattle.heads.specs.Heads.{heading}
+use Rattle.heads.proofs.Tests.{Headed, heading-is, is-heading}
+use Rattle.members.proofs.Chains.{Member, Ringed, ring-read, ring-full, all-member, onto, count-onto}
+use Rattle.sound.specs.Passed.{then}
 use Rattle.sound.proofs.Queues.{kindOf, tailWord, holderWord, visit, visits}
-use Rattle.sound.proofs.Tests.{Headed, heading-is, is-heading}
-use Rattle.sound.proofs.Chains.{Member, Ringed, ring-read, ring-full, all-member, onto, count-onto}
-use Rattle.area.proofs.Rings.{In}
 use Rattle.sound.proofs.Lists.{hits}
 
 -- the reading of a queue
@@ -44,14 +47,14 @@ pub record Visited (ws : List ℕ) (q : Queue) : Type 0 where
 
 -- the words of a record
 module _ (ws : List ℕ) (p : ℕ) where
-  pub link-word : linkIn (records (shapeOf ws) ws) p ≡ getD ws (at (shapeOf ws) (Link p)) 0
-  link-word = getD-drop (recordsAt (shapeOf ws)) ws (recordAt p) 0
+  pub link-word : links.link (records (shapeOf ws) ws) p ≡ getD ws (at (shapeOf ws) (Link p)) 0
+  link-word = getD-drop (recordsAt (shapeOf ws)) ws (slot p) 0
 
-  pub flags-word : getD (records (shapeOf ws) ws) (recordAt p + 1) 0 ≡ getD ws (at (shapeOf ws) (Flags p)) 0
-  flags-word = getD-drop (recordsAt (shapeOf ws)) ws (recordAt p + 1) 0 ∙ ap (λ (i : ℕ). getD ws i 0) (omega arith)
+  pub flags-word : getD (records (shapeOf ws) ws) (slot p + 1) 0 ≡ getD ws (at (shapeOf ws) (Flags p)) 0
+  flags-word = getD-drop (recordsAt (shapeOf ws)) ws (slot p + 1) 0 ∙ ap (λ (i : ℕ). getD ws i 0) (omega arith)
 
-  pub timer-word : getD (records (shapeOf ws) ws) (recordAt p + 2) 0 ≡ getD ws (at (shapeOf ws) (Timer p)) 0
-  timer-word = getD-drop (recordsAt (shapeOf ws)) ws (recordAt p + 2) 0 ∙ ap (λ (i : ℕ). getD ws i 0) (omega arith)
+  pub timer-word : getD (records (shapeOf ws) ws) (slot p + 2) 0 ≡ getD ws (at (shapeOf ws) (Timer p)) 0
+  timer-word = getD-drop (recordsAt (shapeOf ws)) ws (slot p + 2) 0 ∙ ap (λ (i : ℕ). getD ws i 0) (omega arith)
 
 records-small : (ws : List ℕ) → Words ws → Words (records (shapeOf ws) ws)
 records-small ws small i = rw (getD-drop (recordsAt (shapeOf ws)) ws i 0) (small (recordsAt (shapeOf ws) + i))
@@ -59,8 +62,13 @@ records-small ws small i = rw (getD-drop (recordsAt (shapeOf ws)) ws i 0) (small
 pub tail-part : (ws : List ℕ) (q : Queue) → exists (shapeOf ws) q ≡ true → getD ws 0 0 ≤ 1023 → tailWord ws q / 8 ≤ getD ws 0 0 → partsOf (shapeOf ws) ws (tail q) ≡ tailWord ws q / 8
 tail-part ws q h s l = rw h (omega arith)
 
-pub next-part : (ws : List ℕ) (p : ℕ) → inside (getD ws 0 0) p ≡ true → partsOf (shapeOf ws) ws (next p) ≡ nextIn (records (shapeOf ws) ws) p
+pub next-part : (ws : List ℕ) (p : ℕ) → inside (getD ws 0 0) p ≡ true → partsOf (shapeOf ws) ws (next p) ≡ links.next (records (shapeOf ws) ws) p
+unfolding links.next
 next-part ws p h = rw (h, link-word ws p)
+
+pub priority-part : (ws : List ℕ) (p : ℕ) → Words ws → inside (getD ws 0 0) p ≡ true → partsOf (shapeOf ws) ws (kept (priority p)) ≡ links.priority (records (shapeOf ws) ws) p
+unfolding links.priority
+priority-part ws p small h = rw (h, link-word ws p) (omega (arith, small (at (shapeOf ws) (Link p))))
 
 once-inside : (P : ℕ) (xs : List ℕ) → Once xs → ((x : ℕ) → member x xs ≡ true → inside P x ≡ true) → (x : ℕ) → count x xs ≤ bit (inside P x)
 once-inside P xs o m x = go (member x xs) refl
@@ -75,7 +83,7 @@ read-queue : (ws : List ℕ) (q : Queue) (k o : ℕ) (ys : List ℕ) → exists 
 read-queue ws q k o ys h s l once R =
     rw (tail-part ws q h s l, ← R .ends)
     (read-ring (λ p. partsOf (shapeOf ws) ws (next p)) (getD ws 0 0) ys
-    (ring-ext (nextIn (records (shapeOf ws) ws)) (λ p. partsOf (shapeOf ws) ws (next p)) ys (λ p m. sym (next-part ws p (ins p m))) (rw (← R .ends) at (R .linked)))
+    (ring-ext (links.next (records (shapeOf ws) ws)) (λ p. partsOf (shapeOf ws) ws (next p)) ys (λ p m. sym (next-part ws p (ins p m))) (rw (← R .ends) at (R .linked)))
     once
     (λ p m. inside-bounds (getD ws 0 0) p (ins p m) .0)
     (at-most (getD ws 0 0) ys (once-inside (getD ws 0 0) ys once ins)))

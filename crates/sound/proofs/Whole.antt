@@ -20,6 +20,8 @@ use Rattle.model.specs.Valid.{room}
 use Rattle.model.proofs.Tests.{Case, holds, fails, stops, same-case, eqb-yes, eqb-no, leb-no, inside-bounds}
 use Rattle.model.proofs.Lists.{member-here, member-there}
 use Rattle.model.proofs.Places.{at-place, waiting-is}
+use Rattle.ring.specs.Link as links
+use Rattle.ring.specs.Link.{slot}
 use Rattle.ring.specs.Ring.{lastOf, Linked}
 use Rattle.area.specs.Layout.{Slot, word, at, has}
 use Rattle.area.specs.Layout.Part.{kept, tail, next, locked, waiting}
@@ -30,13 +32,13 @@ use Rattle.area.specs.Rings.{records}
 use Rattle.area.specs.Sound.{Sound}
 use Rattle.area.proofs.Rings.{last-member}
 use Rattle.area.proofs.States.{Words}
-use Rattle.sound.specs.Walk.{recordAt, linkIn, nextIn}
-use Rattle.sound.specs.Parts.{Counted, Runs}
+use Rattle.heads.specs.First.{Counted, Runs}
+use Rattle.heads.proofs.Tests.{Headed}
+use Rattle.members.proofs.Tests.{Fits}
+use Rattle.members.proofs.Chains.{Member, all-member, member-all}
 use Rattle.sound.proofs.Queues.{kindOf, tailWord, holderWord}
-use Rattle.sound.proofs.Tests.{Fits, Headed}
-use Rattle.sound.proofs.Chains.{Member, all-member, member-all}
 use Rattle.sound.proofs.Lists.{every, every-in, in-every}
-use Rattle.sound.proofs.Visits.{reading, total, Visited, link-word, flags-word, timer-word, tail-part, next-part, total-one, total-two, placeIn, place-in}
+use Rattle.sound.proofs.Visits.{reading, total, Visited, link-word, flags-word, timer-word, tail-part, next-part, priority-part, total-one, total-two, placeIn, place-in}
 
 -- what the check finds
 pub record Whole (ws : List ℕ) : Type 0 where
@@ -148,7 +150,7 @@ module _ (ws : List ℕ) (small : Words ws) (W : Whole ws) where
       go false h = absurd (false≢true (rw (none-there q h) at m))
 
   -- its record
-  record-fits : (x k : ℕ) → Fits k (linkIn rs x) (getD rs (recordAt x + 1) 0) (getD rs (recordAt x + 2) 0) → Fits k (getD ws (at n (Link x)) 0) (getD ws (at n (Flags x)) 0) (getD ws (at n (Timer x)) 0)
+  record-fits : (x k : ℕ) → Fits k (links.link rs x) (getD rs (slot x + 1) 0) (getD rs (slot x + 2) 0) → Fits k (getD ws (at n (Link x)) 0) (getD ws (at n (Flags x)) 0) (getD ws (at n (Timer x)) 0)
   record-fits x k f = rw (link-word ws x, flags-word ws x, timer-word ws x) at f
 
   place : ℕ → Queue
@@ -204,8 +206,8 @@ module _ (ws : List ℕ) (small : Words ws) (W : Whole ws) where
           let q = place x in
           let v = W .each q (placed x i .0) in
           let m = at-place P (reading ws) place stands x q i refl in
-          let l : Linked (nextIn rs) (last (reading ws q)) (reading ws q) = rw (v .ring .ends) (v .ring .linked) in
-          rw (next-part ws x i) (inside-bounds P (nextIn rs x) (there (nextIn rs x) q (ring-next (nextIn rs) (reading ws q) l x m) .1 .within) .1)
+          let l : Linked (links.next rs) (last (reading ws q)) (reading ws q) = rw (v .ring .ends) (v .ring .linked) in
+          rw (next-part ws x i) (inside-bounds P (links.next rs x) (there (links.next rs x) q (ring-next (links.next rs) (reading ws q) l x m) .1 .within) .1)
 
   -- running
   run-word : (getD ws 4 0 / 8 ≤ P) × (getD ws 4 0 % 8 ≡ 0)
@@ -281,11 +283,11 @@ module _ (ws : List ℕ) (small : Words ws) (W : Whole ws) where
   falls-at : (q : Queue) → Falling (priorities (stateOf ws .fields)) (reading ws q)
   falls-at q = go (exists n q) refl
     where
-      level : (x : ℕ) → member x (reading ws q) ≡ true → linkIn rs x / 8192 ≡ partsOf n ws (kept (priority x))
-      level x m = let s = small (at n (Link x)) in rw (there x q m .1 .within, link-word ws x) (omega arith)
+      level : (x : ℕ) → member x (reading ws q) ≡ true → links.priority rs x ≡ partsOf n ws (kept (priority x))
+      level x m = sym (priority-part ws x small (there x q m .1 .within))
 
       go : (b : Bool) → exists n q ≡ b → Falling (priorities (stateOf ws .fields)) (reading ws q)
-      go true h = falling-ext (λ x. linkIn rs x / 8192) (priorities (stateOf ws .fields)) (reading ws q) level (W .each q h .ring .falls)
+      go true h = falling-ext (links.priority rs) (priorities (stateOf ws .fields)) (reading ws q) level (W .each q h .ring .falls)
       go false h = rw (none-there q h) tt
 
   runs-at : getD ws 4 0 / 8 % 1024 ≡ first (reading ws ready)
@@ -294,7 +296,7 @@ module _ (ws : List ℕ) (small : Words ws) (W : Whole ws) where
       v : Visited ws ready
       v = W .each ready refl
 
-      go : (ys : List ℕ) → Linked (nextIn rs) (getD ws 5 0 / 8) ys → lastOf 0 ys ≡ getD ws 5 0 / 8 → All (Member rs P 0 0) ys → getD ws 4 0 / 8 % 1024 ≡ first ys
+      go : (ys : List ℕ) → Linked (links.next rs) (getD ws 5 0 / 8) ys → lastOf 0 ys ≡ getD ws 5 0 / 8 → All (Member rs P 0 0) ys → getD ws 4 0 / 8 % 1024 ≡ first ys
       go [] l e m = let a = W .runs .nobody (sym e) in omega arith
       go (y ∷ ys) l e m =
           let b = inside-bounds P (lastOf y ys) (all-member (Member rs P 0 0) (y ∷ ys) m (lastOf y ys) (last-member y ys) .within) in
@@ -311,8 +313,8 @@ module _ (ws : List ℕ) (small : Words ws) (W : Whole ws) where
       go true i (no e) =
           let a = W .runs .somebody e in
           let f = a .first in let w = a .within in let u = most in
-          let z : getD ws 4 0 / 8 % 1024 ≡ nextIn rs (getD ws 5 0 / 8) = omega arith in
-          rw (i, z, ← link-word ws (nextIn rs (getD ws 5 0 / 8))) (a .clear)
+          let z : getD ws 4 0 / 8 % 1024 ≡ links.next rs (getD ws 5 0 / 8) = omega arith in
+          rw (i, z, ← link-word ws (links.next rs (getD ws 5 0 / 8))) (a .clear)
 
   timers-at : (x : ℕ) → machine.waiting n (reading ws) x ≡ false → partsOf n ws (kept (timer x)) ≡ 0
   timers-at x w = go (inside P x) refl

@@ -1,3 +1,1 @@
-pub mod Marks
-pub mod Walk
-pub mod Parts
+pub mod Passed

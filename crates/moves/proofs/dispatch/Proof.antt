@@ -4,7 +4,8 @@ use mathlib.Core.Path.{refl}
 use Rattle.model.specs.Queue.Queue.{ready}
 use Rattle.model.specs.Field.Field.{running, failed}
 use Rattle.area.proofs.Puts.{becomes-then}
-use Rattle.moves.proofs.Queues.{first-process, first-runs, dispatch-none, dispatch-first}
+use Rattle.area.proofs.Whole.{counts-in}
+use Rattle.moves.proofs.Queues.{first-process, first-small, dispatch-none, dispatch-first}
 use Rattle.moves.proofs.Shared.{taking}
 use borrow.Author.Needs.{needs}
 use Rattle.moves.proofs.dispatch.Statement.{statement}
@@ -24,7 +25,7 @@ put-requires c κs =
     let n = c .before .before .before .before .before .before .args .shape in
     let pre = c .before .before .before .before .before .before .pre in
     let f = c .before .before .first-in .ensures _ ready (pre .1) refl (c .before .before .before .before .ready-at .ensures n) in
-    (n, running, pre, taking running (c .running .ensures n) refl (first-runs (pre .1) ready f))
+    (n, running, pre, taking running (c .running .ensures n) refl (omega (arith, first-small (pre .1) ready f, counts-in n (pre .1 .placed .counts) .some)))
 
 same-length : tie.Need-same-length
 same-length c = search needs
@@ -33,7 +34,7 @@ returns : tie.Need-returns
 returns c s H =
     let n = c .before .before .before .before .before .before .before .before .before .before .args .shape in
     let f = c .before .before .before .before .before .before .first-in .ensures s ready H refl (c .before .before .before .before .before .before .before .before .ready-at .ensures n) in
-    dispatch-none H f (c .if1 .taken) (c .before .before .before .put .ensures n s running H (taking running (c .before .before .before .before .running .ensures n) refl (first-runs H ready f)))
+    dispatch-none H f (c .if1 .taken) (c .before .before .before .put .ensures n s running H (taking running (c .before .before .before .before .running .ensures n) refl (omega (arith, first-small H ready f, counts-in n (H .placed .counts) .some))))
 
 failed-requires : tie.Need-failed-requires
 failed-requires c κs =
@@ -45,7 +46,7 @@ get-requires c κs =
     let n = c .before .before .before .before .before .before .before .before .before .before .before .before .args .shape in
     let pre = c .before .before .before .before .before .before .before .before .before .before .before .before .pre in
     let f = c .before .before .before .before .before .before .before .before .first-in .ensures _ ready (pre .1) refl (c .before .before .before .before .before .before .before .before .before .before .ready-at .ensures n) in
-    (n, failed (c .before .before .before .before .before .before .before .before .first-in .result), (_, c .before .before .before .before .before .put .ensures n _ running (pre .1) (taking running (c .before .before .before .before .before .before .running .ensures n) refl (first-runs (pre .1) ready f)) .holds), c .failed .ensures)
+    (n, failed (c .before .before .before .before .before .before .before .before .first-in .result), (_, c .before .before .before .before .before .put .ensures n _ running (pre .1) (taking running (c .before .before .before .before .before .before .running .ensures n) refl (omega (arith, first-small (pre .1) ready f, counts-in n (pre .1 .placed .counts) .some))) .holds), c .failed .ensures)
 
 failed-requires-2 : tie.Need-failed-requires-2
 failed-requires-2 c κs =
@@ -58,7 +59,7 @@ put-requires-2 c κs =
     let pre = c .before .before .before .before .before .before .before .before .before .before .before .before .before .before .before .pre in
     let L = c .failed2 .ensures in
     let f = c .before .before .before .before .before .before .before .before .before .before .before .first-in .ensures _ ready (pre .1) refl (c .before .before .before .before .before .before .before .before .before .before .before .before .before .ready-at .ensures n) in
-    (n, failed (c .before .before .before .before .before .before .before .before .before .before .before .first-in .result), (_, c .before .before .before .before .before .before .before .before .put .ensures n _ running (pre .1) (taking running (c .before .before .before .before .before .before .before .before .before .running .ensures n) refl (first-runs (pre .1) ready f)) .holds), taking (failed (c .before .before .before .before .before .before .before .before .before .before .before .first-in .result)) L refl (rw (L .0) (omega arith)))
+    (n, failed (c .before .before .before .before .before .before .before .before .before .before .before .first-in .result), (_, c .before .before .before .before .before .before .before .before .put .ensures n _ running (pre .1) (taking running (c .before .before .before .before .before .before .before .before .before .running .ensures n) refl (omega (arith, first-small (pre .1) ready f, counts-in n (pre .1 .placed .counts) .some))) .holds), taking (failed (c .before .before .before .before .before .before .before .before .before .before .before .first-in .result)) L refl (rw (L .0) (omega arith)))
 
 same-length-2 : tie.Need-same-length-2
 same-length-2 c = search needs
@@ -68,7 +69,7 @@ returns-2 c s H =
     let n = c .before .before .before .before .before .before .before .before .before .before .before .before .before .before .before .before .before .before .args .shape in
     let p = c .before .before .before .before .before .before .before .before .before .before .before .before .before .before .first-in .result in
     let f = c .before .before .before .before .before .before .before .before .before .before .before .before .before .before .first-in .ensures s ready H refl (c .before .before .before .before .before .before .before .before .before .before .before .before .before .before .before .before .ready-at .ensures n) in
-    let b = c .before .before .before .before .before .before .before .before .before .before .before .put .ensures n s running H (taking running (c .before .before .before .before .before .before .before .before .before .before .before .before .running .ensures n) refl (first-runs H ready f)) in
+    let b = c .before .before .before .before .before .before .before .before .before .before .before .put .ensures n s running H (taking running (c .before .before .before .before .before .before .before .before .before .before .before .before .running .ensures n) refl (omega (arith, first-small H ready f, counts-in n (H .placed .counts) .some))) in
     let L = c .before .before .before .failed2 .ensures in
     dispatch-first H f (c .before .before .before .before .before .before .before .before .if1 .left) (c .before .before .before .before .before .get .ensures n _ (failed p) (b .holds) (c .before .before .before .before .before .before .failed .ensures)) (becomes-then b (c .before .before .put2 .ensures n _ (failed p) (b .holds) (taking (failed p) L refl (rw (L .0) (omega arith)))))
 

@@ -19,8 +19,8 @@ enum-known-call c = search needs
 perform-requires : tie.Need-perform-requires
 perform-requires c κs = search needs
 
-print-requires : tie.Need-print-requires
-print-requires c κs = search needs
+line-requires : tie.Need-line-requires
+line-requires c κs = search needs
 
 enum-known-shape : tie.Need-enum-known-shape
 enum-known-shape c = search needs
@@ -42,8 +42,8 @@ slice-aggregate-start c =
 start-requires : tie.Need-start-requires
 start-requires c κs = search needs
 
-print-requires-2 : tie.Need-print-requires-2
-print-requires-2 c κs = search needs
+line-requires-2 : tie.Need-line-requires-2
+line-requires-2 c κs = search needs
 
 enum-told : tie.Need-enum-told
 enum-told c = search needs
@@ -75,9 +75,9 @@ returns c =
     let parse = c .before .before .before .before .before .before .before .before .before .before .before .before .before .before .before .parse in
     let call = c .before .before .before .before .before .before .before .before .before .call in
     let perform = c .before .before .before .before .before .before .perform in
-    let print = c .before .before .print in (
-      omega (arith, print .ensures .0, print .kept),
-      served-call (parse .result) (parse .last .1 .1 .0) (meaning (now (args .line))) (parse .ensures) (call .given .0 .0) (now (args .area)) (perform .last .0) (take (print .result) (print .last .1 .0)) (perform .result) (call .given .1) (perform .ensures) (print .ensures .1),
+    let line = c .before .before .line in (
+      omega (arith, line .ensures .0, line .kept),
+      served-call (parse .result) (parse .last .1 .1 .0) (meaning (now (args .line))) (parse .ensures) (call .given .0 .0) (now (args .area)) (perform .last .0) (take (line .result) (line .last .1 .0)) (perform .result) (call .given .1) (perform .ensures) (line .ensures .1),
     )
 
 same-length-5 : tie.Need-same-length-5
@@ -98,9 +98,9 @@ returns-2 c =
     let parse = c .before .before .before .before .before .before .before .before .before .before .before .before .before .before .before .before .parse in
     let shape = c .before .before .before .before .before .before .before .before .before .before .shape in
     let start = c .before .before .before .before .before .before .start in
-    let print2 = c .before .before .print2 in (
-      omega (arith, print2 .ensures .0, print2 .kept),
-      served-start (parse .result) (parse .last .1 .1 .0) (meaning (now (args .line))) (parse .ensures) (shape .given .0 .0) (shape .given .0 .1 .0) (now (args .area)) (start .last .0) (take (print2 .result) (print2 .last .1 .0)) (start .result) (shape .given .1) (start .ensures) (print2 .ensures .1),
+    let line2 = c .before .before .line2 in (
+      omega (arith, line2 .ensures .0, line2 .kept),
+      served-start (parse .result) (parse .last .1 .1 .0) (meaning (now (args .line))) (parse .ensures) (shape .given .0 .0) (shape .given .0 .1 .0) (now (args .area)) (start .last .0) (take (line2 .result) (line2 .last .1 .0)) (start .result) (shape .given .1) (start .ensures) (line2 .ensures .1),
     )
 
 same-length-9 : tie.Need-same-length-9
@@ -128,12 +128,12 @@ serve-spec =
     parse-requires
     enum-known-call
     perform-requires
-    print-requires
+    line-requires
     enum-known-shape
     slice-reshare-prefix-start
     slice-aggregate-start
     start-requires
-    print-requires-2
+    line-requires-2
     enum-told
     slice-write-out
     slice-write-out-2

@@ -8,9 +8,10 @@ use native.Mathlib.Omega.{arith}
 use mathlib.Core.Path.{refl, sym, _∙_}
 use mathlib.Core.List.{List}
 use lib.ListN.{length, getD}
-use Rattle.sound.specs.Walk.{Met}
-use Rattle.sound.proofs.Steps.{head-within, holder-within}
-use Rattle.sound.proofs.Queues.{Passed, heading-tail, passed-none, passed-all, passed-odd, passed-broken, passed-on}
+use Rattle.heads.proofs.Steps.{head-within, holder-within}
+use Rattle.heads.proofs.Tests.{heading-is}
+use Rattle.members.specs.Walk.{Met}
+use Rattle.sound.proofs.Queues.{Passed, passed-none, passed-all, passed-odd, passed-broken, passed-on}
 use Rattle.sound.proofs.rings.Statement.{statement}
 use Rattle.sound.proofs.rings.Tie as tie
 
@@ -56,7 +57,7 @@ returns c js T =
 
 -- past the test the tail is one of 0 to P
 tail-small : (c : tie.Else1 Inv-loop μ-loop) → getD (now (c .before .before .before .before .before .before .before .before .before .args .heads)) (c .before .before .before .before .head-at .result) 0 / 8 ≤ c .before .before .before .before .before .before .before .before .before .args .processes
-tail-small c = heading-tail _ _ _ _ (sym (c .before .in-order .ensures) ∙ not-false _ (c .if1 .left))
+tail-small c = heading-is _ _ _ _ (sym (c .before .in-order .ensures) ∙ not-false _ (c .if1 .left)) .tail
 
 cast-walk : tie.Need-cast-walk Inv-loop μ-loop
 cast-walk c = search needs

@@ -8,10 +8,10 @@ use lib.ListN.{length}
 use borrow.Author.Needs.{needs}
 use Rattle.area.specs.Layout.{size}
 use Rattle.area.proofs.States.{Words}
-use Rattle.sound.specs.Parts.{Counted}
-use Rattle.sound.proofs.Marks.{clear}
+use Rattle.heads.specs.First.{Counted}
+use Rattle.members.proofs.Marks.{clear}
 use Rattle.sound.proofs.Check.{decides-yes, decides-no, uncounted, unready, broken-1, broken-2, finished, refuses}
-use Rattle.sound.proofs.Queues.{counted-long, lent-runs, lent-records, lent-within, lent-visits}
+use Rattle.sound.proofs.Queues.{counted-long, lent-first, lent-runs, lent-within, lent-visits}
 use Rattle.sound.proofs.sound.Statement.{statement}
 use Rattle.sound.proofs.sound.Tie as tie
 
@@ -70,7 +70,7 @@ runs-requires : tie.Need-runs-requires
 runs-requires c κs =
     let r = c .before in
     let e = r .before .before in
-    (counts e .header, lent-records _ (r .before .shape-of .ensures) (r .records-at .ensures) (counts e))
+    lent-first _ (r .before .shape-of .ensures) (r .records-at .ensures) (counts e)
 
 returns-2 : tie.Need-returns-2
 returns-2 c =

@@ -1,0 +1,130 @@
+// The words before the records: whether the counts, the running process and the words of a queue are in order. Assumes nothing.
+use area::layout;
+ghost use mathlib.Core.Path.{_≡_};
+ghost use Prim.Native.Nat.{_+_, _*_, _≤_, _<_};
+ghost use lib.ListN.{length};
+ghost use Rattle.heads.specs.Heads.{heading, headAt, holderIn};
+ghost use Rattle.heads.specs.First.{Decides, Counted, Runs};
+
+// The kinds of queues: ready and the parks, the locks, the conditions.
+pub const PLAIN: u16 = 0;
+
+pub const LOCK: u16 = 1;
+
+pub const CONDITION: u16 = 2;
+
+// ---- the counts and running
+
+// Whether an area is long enough and its counts are in range.
+pub fn counted(area: &[u16]) -> bool
+    ensures { λ r. ⌜ Decides r (Counted (now (area .entry))) ⌝ }
+{
+    if area.len() < layout::HEAD {
+        return false;
+    }
+    let shape = area::shape_of(area);
+    if shape.processes == 0 {
+        return false;
+    }
+    if layout::MOST_PROCESSES < shape.processes {
+        return false;
+    }
+    if layout::MOST_PARKS < shape.parks {
+        return false;
+    }
+    let unnamed = area[layout::PARKS] % layout::PARKS_UNIT;
+    if unnamed != 0 {
+        return false;
+    }
+    if area.len() < area::size_of(shape) {
+        return false;
+    }
+    true
+}
+
+// Whether the running process is the first of ready, 0 if ready is empty, and is not failed.
+pub fn runs(area: &[u16], records: &[u16], processes: u16) -> bool
+    requires { ⌜ (6 ≤ length (now area)) × (processes < 1024) × (3 * processes ≤ length (now records)) ⌝ }
+    ensures { λ r. ⌜ Decides r (Runs (now (area .entry)) (now (records .entry)) processes) ⌝ }
+{
+    let w = area[layout::RUNNING];
+    let tail = area[layout::READY] / ring::NUMBER;
+    if tail == 0 {
+        if w != 0 {
+            return false;
+        }
+        return true;
+    }
+    if processes < tail {
+        return false;
+    }
+    let first = ring::next_of(records, tail);
+    if first == 0 {
+        return false;
+    }
+    if processes < first {
+        return false;
+    }
+    if w != first * ring::NUMBER {
+        return false;
+    }
+    let at = (first as usize - 1) * ring::RECORD;
+    let failed = records[at] / layout::FAILED % 2;
+    if failed != 0 {
+        return false;
+    }
+    true
+}
+
+// ---- the words of a queue
+
+// Whether the words of a queue of this kind are in order: w has the tail, v the holder, 0 where there is none.
+pub fn in_order(processes: u16, kind: u16, w: u16, v: u16) -> bool
+    ensures { λ r. ⌜ r ≡ heading processes kind w v ⌝ }
+{
+    // most queues are empty
+    if w == 0 {
+        return v == 0;
+    }
+    if processes < w / ring::NUMBER {
+        return false;
+    }
+    if processes < v / ring::NUMBER {
+        return false;
+    }
+    if v % ring::NUMBER != 0 {
+        return false;
+    }
+    if v != 0 {
+        return w % ring::NUMBER == layout::LOCKED;
+    }
+    if kind == CONDITION {
+        if w == layout::WAKEUP {
+            return true;
+        }
+        return w % ring::NUMBER == 0;
+    }
+    w % ring::NUMBER == 0
+}
+
+// Where the words of queue i of this kind stand, among those of the kind.
+pub fn head_at(kind: u16, i: usize) -> usize
+    requires { ⌜ i < 1024 ⌝ }
+    ensures { λ r. ⌜ r ≡ headAt kind i ⌝ }
+{
+    if kind == LOCK {
+        return i * layout::LOCK;
+    }
+    i
+}
+
+// The holder's word, 0 for a queue that has none.
+pub fn holder_word(heads: &[u16], kind: u16, at: usize) -> u16
+    requires { ⌜ (kind ≡ 1 → at + 1 < length (now heads)) ⌝ }
+    ensures { λ r. ⌜ r ≡ holderIn (now (heads .entry)) kind at ⌝ }
+{
+    if kind == LOCK {
+        return heads[at + layout::HOLDER];
+    }
+    0
+}
