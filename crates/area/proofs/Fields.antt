@@ -1,11 +1,12 @@
 -- A part of a word, and a field that takes a value, whichever it is: what the reads and writes of the crate stand on. Assumes nothing.
-use Prim.Native.Nat.{ℕ, suc, _+_, _-_, _*_, _/_, _%_, _≤_, _<_}
+use Prim.Native.Nat.{ℕ, suc, _+_, _*_, _/_, _%_, _≤_, _<_}
 use native.Mathlib.Omega.{arith}
-use native.Mathlib.Nat.{le-trans, mod-le, div-le-self, div-add-mod', mul-le-mul-right}
+use native.Mathlib.Nat.{le-trans, mod-le, div-le-self, div-add-mod'}
 use mathlib.Core.Path.{_≡_, refl, sym, ap, _∙_}
 use mathlib.Core.Bool.{Bool, true, false, cond, true≢false}
 use mathlib.Core.Logic.{_≢_}
 use mathlib.Core.List.{List}
+use lib.Arith.{mod-mul}
 use lib.ListN.{length}
 use Rattle.model.specs.declared.Shape.{Shape}
 use Rattle.model.specs.Queue.{inside, bit}
@@ -40,29 +41,20 @@ below {n} {ws} {t} im a ok here = rw here (within n ws t im a ok)
 
 -- ---- a part of a word
 
--- it is no more than the word, and neither is what it counts
+-- it is no more than the word
 pub part-small : (w u k : ℕ) → w / u % k ≤ w
 part-small w u k = le-trans (mod-le (w / u) k) (div-le-self w u)
 
-pub part-counts : (w u k : ℕ) {r : ℕ} → r ≡ w / u % k → r * u ≤ w
-part-counts w u k e = let a = mul-le-mul-right u (mod-le (w / u) k) in rw e (le-trans a (omega (arith, div-add-mod' w u)))
+-- a word w is what stands above a part, what the part counts, and what stands below; v takes the place of what it counts
+swapped : (w h p l v : ℕ) → h + (p + l) ≡ w → w + v < 65536 + p → (h ≤ w) × (v < 65536 + p) × (h + v + l < 65536) × (h + v + l + p ≡ w + v)
+swapped w h p l v e room = (omega arith, omega arith, omega arith, omega arith)
 
--- where it counts x and the word has room for that
-fits : (w p v : ℕ) → p ≤ w → w + v < 65536 + p → (v < 65536) × (w - p + v < 65536) × (w - p + v + p ≡ w + v)
-fits w p v less room = (omega arith, omega arith, omega arith)
+module _ (w u k x : ℕ) (hu : 0 < u) (hk : 0 < k) (room : w + x * u < 65536 + w / u % k * u) where
+  split : w / (k * u) * (k * u) + (w / u % k * u + w % u) ≡ w
+  split = ap (λ z. w / (k * u) * (k * u) + z) (sym (mod-mul w {m = k} {c = u} hk hu)) ∙ div-add-mod' w (k * u)
 
-module _ (w u k x : ℕ) {r : ℕ} (e : r ≡ w / u % k) (room : w + x * u < 65536 + w / u % k * u) where
-  new : (x * u < 65536) × (w - r * u + x * u < 65536) × (w - r * u + x * u + r * u ≡ w + x * u)
-  new = fits w (r * u) (x * u) (part-counts w u k e) (rw e room)
-
-  pub count-fits : x * u < 65536
-  count-fits = new .0
-
-  pub word-fits : w - r * u + x * u < 65536
-  word-fits = new .1
-
-  pub count-moved : w - r * u + x * u + w / u % k * u ≡ w + x * u
-  count-moved = rw (← e) (new .2)
+  pub part-swapped : (w / (k * u) * (k * u) ≤ w) × (x * u < 65536 + w / u % k * u) × (w / (k * u) * (k * u) + x * u + w % u < 65536) × (w / (k * u) * (k * u) + x * u + w % u + w / u % k * u ≡ w + x * u)
+  part-swapped = swapped w (w / (k * u) * (k * u)) (w / u % k * u) (w % u) (x * u) split room
 
 -- ---- writes
 

@@ -116,10 +116,13 @@ fn part_of(word: u16, unit: u16, span: u32) -> u16
 
 // The word with another value of that part, and every other bit as it was.
 fn with_part(word: u16, unit: u16, span: u32, value: u16) -> u16
-    requires { ⌜ (0 < unit) × (0 < span) × (word + value * unit < 65536 + word / unit % span * unit) ⌝ }
+    requires { ⌜ (0 < unit) × (0 < span) × (span * unit ≤ 65536) × (word + value * unit < 65536 + word / unit % span * unit) ⌝ }
     ensures { λ r. ⌜ r + word / unit % span * unit ≡ word + value * unit ⌝ }
 {
-    word - part_of(word, unit, span) * unit + value * unit
+    let above = span * unit as u32;
+    let high = word as u32 / above * above;
+    let low = (word % unit) as u32;
+    (high + value as u32 * unit as u32 + low) as u16
 }
 
 // ---- a read and a write

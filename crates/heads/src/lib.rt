@@ -29,11 +29,11 @@ pub fn counted(area: &[u16]) -> bool
     if layout::MOST_PROCESSES < shape.processes {
         return false;
     }
-    if layout::MOST_PARKS < shape.parks {
-        return false;
-    }
     let unnamed = area[layout::PARKS] % layout::PARKS_UNIT;
     if unnamed != 0 {
+        return false;
+    }
+    if layout::MOST_PARKS < shape.parks {
         return false;
     }
     if area.len() < area::size_of(shape) {

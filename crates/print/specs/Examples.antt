@@ -3,7 +3,7 @@ use mathlib.Core.Path.{_≡_, refl}
 use mathlib.Core.List.{[], _∷_, map}
 use Rattle.print.specs.Print.{decimal, printed}
 
--- the answer to the sixth line, and the widest answer
+-- the answer to the sixth of 01's nine lines, and the widest answer
 answers : map printed (record { code = 0; running = 2; retry = 1; mark = 0; moved = 1 } ∷ record { code = 65535; running = 10000; retry = 9999; mark = 100; moved = 10 } ∷ [])
     ≡ (48 ∷ 32 ∷ 50 ∷ 32 ∷ 49 ∷ 32 ∷ 48 ∷ 32 ∷ 49 ∷ 10 ∷ []) ∷ (54 ∷ 53 ∷ 53 ∷ 51 ∷ 53 ∷ 32 ∷ 49 ∷ 48 ∷ 48 ∷ 48 ∷ 48 ∷ 32 ∷ 57 ∷ 57 ∷ 57 ∷ 57 ∷ 32 ∷ 49 ∷ 48 ∷ 48 ∷ 32 ∷ 49 ∷ 48 ∷ 10 ∷ []) ∷ []
 answers = refl

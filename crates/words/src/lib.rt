@@ -5,7 +5,7 @@ ghost use lib.ListN.{length, drop};
 ghost use Rattle.words.specs.Words.{number, same};
 ghost use Rattle.words.specs.Read.{clipped, word, after, Reads, Bytes};
 
-// What the words after the name are: so many numbers, or not all of them numbers.
+// What the words after the first are: so many numbers, or not all of them numbers.
 pub enum Found {
     Numbers(usize),
     Nothing,

@@ -18,14 +18,14 @@ returns-2 c = λ x. omega (arith, counts-said (now (c .before .before .before .b
 returns-3 : tie.Need-returns-3
 returns-3 c = λ x. omega (arith, counts-said (now (c .before .before .before .before .before .before .before .args .area)) (c .before .before .before .before .shape-of .ensures))
 
-returns-4 : tie.Need-returns-4
-returns-4 c = λ x. omega (arith, counts-said (now (c .before .before .before .before .before .before .before .before .before .args .area)) (c .before .before .before .before .before .before .shape-of .ensures))
-
 shared-slice-read-unnamed : tie.Need-shared-slice-read-unnamed
 shared-slice-read-unnamed c = search needs
 
+returns-4 : tie.Need-returns-4
+returns-4 c = search needs
+
 returns-5 : tie.Need-returns-5
-returns-5 c = search needs
+returns-5 c = λ x. omega (arith, counts-said (now (c .before .before .before .before .before .before .before .before .before .before .before .args .area)) (c .before .before .before .before .before .before .before .before .shape-of .ensures))
 
 size-of-requires : tie.Need-size-of-requires
 size-of-requires c κs = search needs
@@ -46,8 +46,8 @@ counted-spec =
     shape-of-requires
     returns-2
     returns-3
-    returns-4
     shared-slice-read-unnamed
+    returns-4
     returns-5
     size-of-requires
     returns-6
