@@ -1,12 +1,14 @@
 -- A part of a word, and a field that takes a value, whichever it is: what the reads and writes of the crate stand on. Assumes nothing.
-use Prim.Native.Nat.{ℕ, suc, _+_, _*_, _/_, _%_, _≤_, _<_}
+use Prim.Native.Nat.{ℕ, suc, _+_, _*_, _/_, _%_, _^_, _≤_, _<_}
 use native.Mathlib.Omega.{arith}
-use native.Mathlib.Nat.{le-trans, mod-le, div-le-self, div-add-mod'}
-use mathlib.Core.Path.{_≡_, refl, sym, ap, _∙_}
+use native.Mathlib.Nat.{le-trans, mod-le, mod-lt, div-le-self, div-add-mod', mul-assoc}
+use mathlib.Core.Path.{_≡_, refl, sym, ap, _∙_, subst}
 use mathlib.Core.Bool.{Bool, true, false, cond, true≢false}
 use mathlib.Core.Logic.{_≢_}
 use mathlib.Core.List.{List}
 use lib.Arith.{mod-mul}
+use lib.Pow.{pow-pos}
+use lib.Bits.{bitOr, or-shifted}
 use lib.ListN.{length}
 use Rattle.model.specs.declared.Shape.{Shape}
 use Rattle.model.specs.Queue.{inside, bit}
@@ -46,15 +48,24 @@ pub part-small : (w u k : ℕ) → w / u % k ≤ w
 part-small w u k = le-trans (mod-le (w / u) k) (div-le-self w u)
 
 -- a word w is what stands above a part, what the part counts, and what stands below; v takes the place of what it counts
-swapped : (w h p l v : ℕ) → h + (p + l) ≡ w → w + v < 65536 + p → (h ≤ w) × (v < 65536 + p) × (h + v + l < 65536) × (h + v + l + p ≡ w + v)
+swapped : (w h p l v : ℕ) → h + (p + l) ≡ w → w + v < 65536 + p → (h ≤ w) × (v < 65536 + p) × (h + l + v < 65536) × (h + l + v + p ≡ w + v)
 swapped w h p l v e room = (omega arith, omega arith, omega arith, omega arith)
 
-module _ (w u k x : ℕ) (hu : 0 < u) (hk : 0 < k) (room : w + x * u < 65536 + w / u % k * u) where
-  split : w / (k * u) * (k * u) + (w / u % k * u + w % u) ≡ w
-  split = ap (λ z. w / (k * u) * (k * u) + z) (sym (mod-mul w {m = k} {c = u} hk hu)) ∙ div-add-mod' w (k * u)
+module _ (w u k x : ℕ) (hk : 0 < k) (power : (i : ℕ) × (u ≡ 2 ^ i)) where
+  pub unit-some : 0 < u
+  unit-some = rw (power .1) (pow-pos (power .0))
 
-  pub part-swapped : (w / (k * u) * (k * u) ≤ w) × (x * u < 65536 + w / u % k * u) × (w / (k * u) * (k * u) + x * u + w % u < 65536) × (w / (k * u) * (k * u) + x * u + w % u + w / u % k * u ≡ w + x * u)
-  part-swapped = swapped w (w / (k * u) * (k * u)) (w / u % k * u) (w % u) (x * u) split room
+  split : w / (k * u) * (k * u) + (w / u % k * u + w % u) ≡ w
+  split = ap (λ z. w / (k * u) * (k * u) + z) (sym (mod-mul w {m = k} {c = u} hk unit-some)) ∙ div-add-mod' w (k * u)
+
+  -- no bit stands both above and below
+  apart : bitOr (w / (k * u) * (k * u)) (w % u) ≡ w / (k * u) * (k * u) + w % u
+  apart =
+      let l = mod-lt w {m = u} unit-some in
+      rw (← mul-assoc (w / (k * u)) k u) (subst (λ (z : ℕ). w % u < z → bitOr (w / (k * u) * k * z) (w % u) ≡ w / (k * u) * k * z + w % u) (sym (power .1)) (or-shifted (w / (k * u) * k) (power .0) (w % u)) l)
+
+  pub part-swapped : w + x * u < 65536 + w / u % k * u → (w / (k * u) * (k * u) ≤ w) × (x * u < 65536 + w / u % k * u) × (bitOr (w / (k * u) * (k * u)) (w % u) + x * u < 65536) × (bitOr (w / (k * u) * (k * u)) (w % u) + x * u + w / u % k * u ≡ w + x * u)
+  part-swapped room = rw apart (swapped w (w / (k * u) * (k * u)) (w / u % k * u) (w % u) (x * u) split room)
 
 -- ---- writes
 

@@ -1,11 +1,12 @@
 -- The store law: the word that a part's home takes when the part changes makes an area of the changed parts, and no other. A word goes by
 -- the parts that it is home to and by nothing else, and no other slot has its address. Assumes nothing.
-use Prim.Native.Nat.{ℕ, _+_, _*_, _/_, _%_, _≤_, _<_}
+use Prim.Native.Nat.{ℕ, _+_, _*_, _/_, _%_, _^_, _≤_, _<_}
 use native.Mathlib.Decide.{ℕ-discrete}
 use native.Mathlib.Omega.{arith}
 use mathlib.Core.Path.{_≡_, refl, sym, ap, _∙_}
 use mathlib.Core.Bool.{true}
 use mathlib.Core.List.{List}
+use lib.Pow.{pow-pos}
 use lib.ListN.{length, getD, set, length-set}
 use lib.Seq.{getD-set-same, getD-set-other, drop-set-lt}
 use Rattle.model.specs.declared.Shape.{Shape}
@@ -174,19 +175,19 @@ word-small n t k sp (Link p) v = omega (arith, sp (kept (priority p)) v, sp (nex
 word-small n t k sp (Flags p) v = omega (arith, sp (waiting p) v)
 word-small n t k sp (Timer p) v = sp (kept (timer p)) v
 
--- a part has a unit, and room in a word
-unit-fits : (f : Part) → (0 < unit f) × (span f * unit f ≤ 65536)
-unit-fits (kept clock) = (omega arith, omega arith)
-unit-fits (kept running) = (omega arith, omega arith)
-unit-fits (kept (priority p)) = (omega arith, omega arith)
-unit-fits (kept (timer p)) = (omega arith, omega arith)
-unit-fits (kept (failed p)) = (omega arith, omega arith)
-unit-fits (kept (holder l)) = (omega arith, omega arith)
-unit-fits (kept (wakeup c)) = (omega arith, omega arith)
-unit-fits (tail q) = (omega arith, omega arith)
-unit-fits (next p) = (omega arith, omega arith)
-unit-fits (locked l) = (omega arith, omega arith)
-unit-fits (waiting p) = (omega arith, omega arith)
+-- a part has room in a word, and counts by the bit in which it ends
+unit-fits : (f : Part) → (span f * unit f ≤ 65536) × ((i : ℕ) × (unit f ≡ 2 ^ i))
+unit-fits (kept clock) = (omega arith, (0, refl))
+unit-fits (kept running) = (omega arith, (3, refl))
+unit-fits (kept (priority p)) = (omega arith, (13, refl))
+unit-fits (kept (timer p)) = (omega arith, (0, refl))
+unit-fits (kept (failed p)) = (omega arith, (2, refl))
+unit-fits (kept (holder l)) = (omega arith, (3, refl))
+unit-fits (kept (wakeup c)) = (omega arith, (0, refl))
+unit-fits (tail q) = (omega arith, (3, refl))
+unit-fits (next p) = (omega arith, (3, refl))
+unit-fits (locked l) = (omega arith, (0, refl))
+unit-fits (waiting p) = (omega arith, (1, refl))
 
 -- ---- a part at its place
 
@@ -195,14 +196,17 @@ module _ {n : Shape} {ws : List ℕ} {t : Parts} (im : Image n ws t) (f : Part) 
   pub place-below : p .at < length ws
   place-below = rw (L .1) (within n ws t im (home f) (L .0))
 
+  pub place-power : (i : ℕ) × (p .unit ≡ 2 ^ i)
+  place-power = rw (L .2) (unit-fits f .1)
+
   pub place-unit : 0 < p .unit
-  place-unit = rw (L .2) (unit-fits f .0)
+  place-unit = rw (place-power .1) (pow-pos (place-power .0))
 
   pub place-span : 0 < p .span
   place-span = omega (arith, im .spans f (L .0), L .3)
 
   pub place-fits : p .span * p .unit ≤ 65536
-  place-fits = rw (L .2, L .3) (unit-fits f .1)
+  place-fits = rw (L .2, L .3) (unit-fits f .0)
 
   -- a read of it
   pub place-load : getD ws (p .at) 0 / p .unit % p .span ≡ t f

@@ -7,7 +7,7 @@ use places::Place;
 use ring::RECORD;
 ghost use mathlib.Core.Path.{_≡_};
 ghost use mathlib.Core.Bool.{true};
-ghost use Prim.Native.Nat.{_+_, _*_, _/_, _%_, _<_, _≤_};
+ghost use Prim.Native.Nat.{ℕ, _+_, _*_, _/_, _%_, _^_, _<_, _≤_};
 ghost use lib.ListN.{length};
 ghost use Rattle.model.specs.declared.Shape.{Shape};
 ghost use Rattle.model.specs.Queue.{inside, bit};
@@ -116,13 +116,13 @@ fn part_of(word: u16, unit: u16, span: u32) -> u16
 
 // The word with another value of that part, and every other bit as it was.
 fn with_part(word: u16, unit: u16, span: u32, value: u16) -> u16
-    requires { ⌜ (0 < unit) × (0 < span) × (span * unit ≤ 65536) × (word + value * unit < 65536 + word / unit % span * unit) ⌝ }
+    requires { ⌜ (0 < span) × (span * unit ≤ 65536) × ((i : ℕ) × (unit ≡ 2 ^ i)) × (word + value * unit < 65536 + word / unit % span * unit) ⌝ }
     ensures { λ r. ⌜ r + word / unit % span * unit ≡ word + value * unit ⌝ }
 {
     let above = span * unit as u32;
     let high = word as u32 / above * above;
     let low = (word % unit) as u32;
-    (high + value as u32 * unit as u32 + low) as u16
+    ((high | low) + value as u32 * unit as u32) as u16
 }
 
 // ---- a read and a write

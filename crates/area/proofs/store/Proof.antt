@@ -1,5 +1,5 @@
 -- `area::store` meets its contract: the part's bits are written, and the word keeps the others. Assumes nothing.
-use Rattle.area.proofs.Stores.{place-below, place-unit, place-span, place-fits, place-room, place-store}
+use Rattle.area.proofs.Stores.{place-below, place-power, place-span, place-fits, place-room, place-store}
 use borrow.Author.Needs.{needs}
 use Rattle.area.proofs.store.Statement.{statement}
 use Rattle.area.proofs.store.Tie as tie
@@ -11,7 +11,7 @@ slice-read-word : tie.Need-slice-read-word
 slice-read-word c = let h = c .before .before .pre in place-below (h .3) (h .2) (h .4)
 
 with-part-requires : tie.Need-with-part-requires
-with-part-requires c κs = let h = c .before .before .pre in (place-unit (h .3) (h .2) (h .4), place-span (h .3) (h .2) (h .4), place-fits (h .3) (h .2) (h .4), place-room (h .3) (h .2) (h .4) (h .5))
+with-part-requires c κs = let h = c .before .before .pre in (place-span (h .3) (h .2) (h .4), place-fits (h .3) (h .2) (h .4), place-power (h .3) (h .2) (h .4), place-room (h .3) (h .2) (h .4) (h .5))
 
 mul-area : tie.Need-mul-area
 mul-area c = let h = c .before .before .before .pre in let b = place-below (h .3) (h .2) (h .4) in search needs
