@@ -224,8 +224,5 @@ module _ {n : Shape} {ws : List ℕ} {t : Parts} (im : Image n ws t) (f : Part) 
     pub place-store : (v : ℕ) → v + getD ws (p .at) 0 / p .unit % p .span * p .unit ≡ getD ws (p .at) 0 + x * p .unit → Stored n ws (lib.ListN.set ws (p .at) v) (alter f x t)
     place-store v e = store n ws t im f x (p .at) (L .0) fits (L .1) (p .unit) (p .span) v (getD ws (p .at) 0) (sym (L .2)) (sym (L .3)) refl e
 
-pub stored-none : (n : Shape) (ws : List ℕ) (t : Parts) → Image n ws t → Stored n ws ws t
-stored-none n ws t im = record { image = im; beyond = refl }
-
 pub stored-then : {n : Shape} {a b c : List ℕ} {s t : Parts} → Stored n a b s → Stored n b c t → Stored n a c t
 stored-then x y = record { image = y .image; beyond = y .beyond ∙ x .beyond }

@@ -69,7 +69,7 @@ pub fn runs(area: &[u16], records: &[u16], processes: u16) -> bool
         return false;
     }
     let at = (first as usize - 1) * ring::RECORD;
-    let failed = records[at] / layout::FAILED % 2;
+    let failed = records[at] / layout::FAILED % layout::BIT as u16;
     if failed != 0 {
         return false;
     }

@@ -1,5 +1,5 @@
 -- What leaving and joining keep. Each is one or two changes of a next field, and such a change moves no other bit of any word; so every priority, every failed bit, every flags and timer word, and every ring without these processes stay. Assumes nothing.
-use mathlib.Core.Path.{_≡_, refl, sym, ap, _∙_, subst}
+use mathlib.Core.Path.{_≡_, sym, ap, _∙_, subst}
 use mathlib.Core.Logic.{_≢_}
 use mathlib.Core.Bool.{true, false}
 use mathlib.Core.List.{List, _∷_}
@@ -7,13 +7,12 @@ use Prim.Native.Nat.{ℕ, _/_, _%_, _≤_, _<_}
 use native.Mathlib.Decide.{ℕ-discrete}
 use native.Mathlib.Omega.{arith}
 use lib.ListN.{length, getD}
-use Rattle.model.specs.Queue.{member, remove, insert, Falling}
-use Rattle.model.proofs.Lists.{member-here, member-there, falling-remove, falling-insert}
+use Rattle.model.specs.Queue.{member}
+use Rattle.model.proofs.Lists.{member-here, member-there}
 use Rattle.ring.specs.Link.{Stands, slot, link, next, priority, point}
 use Rattle.ring.specs.Ring.{Ring, lastOf, aheadOf, aheadFor, leader, Left, Joined}
 use Rattle.ring.proofs.Links.{relink-priority, relink-low, next-small, point-length, point-word, point-kept, slots-apart}
 use Rattle.ring.proofs.Lists.{flip, differ, all-members, members-all, member-other}
-use Rattle.ring.proofs.Places.{falling-agree}
 use Rattle.ring.proofs.Rings.{ring-stand, ring-member, follows-all, ring-same}
 use Rattle.ring.proofs.Moves.{leader-some}
 
@@ -28,22 +27,13 @@ pub record Kept (r r′ zs : List ℕ) : Type 0 where
   pub links : (q : ℕ) → 1 ≤ q → member q zs ≡ false → link r′ q ≡ link r q
 
 module _ {r r′ zs : List ℕ} (K : Kept r r′ zs) where
-  pub kept-stands : {p : ℕ} → Stands r p → Stands r′ p
-  kept-stands s = record { low = s .low; high = s .high; within = omega (arith, s .within, K .long) }
-
   pub kept-priority : (q : ℕ) → priority r′ q ≡ priority r q
   unfolding priority
   kept-priority q = K .high (slot q)
 
-  pub kept-failed : (q : ℕ) → link r′ q / 4 % 2 ≡ link r q / 4 % 2
-  kept-failed q = omega (arith, K .low (slot q))
-
   pub kept-next : (q : ℕ) → 1 ≤ q → member q zs ≡ false → next r′ q ≡ next r q
   unfolding next
   kept-next q b m = ap (λ (w : ℕ). w / 8 % 1024) (K .links q b m)
-
-  pub kept-falling : (xs : List ℕ) → Falling (priority r) xs → Falling (priority r′) xs
-  kept-falling xs f = falling-agree (priority r) (priority r′) xs (λ x m. kept-priority x) f
 
   -- a ring that has none of zs
   pub kept-ring : (tail : ℕ) (xs : List ℕ) → ((x : ℕ) → member x xs ≡ true → member x zs ≡ false) → Ring r tail xs → Ring r′ tail xs
@@ -76,9 +66,6 @@ left-kept {r} {tail} p xs R m L =
     let k : member q xs ≡ true = follows-all (λ x. member x xs ≡ true) _ xs R h (all-members (λ x. member x xs ≡ true) xs (λ x e. e)) in
     subst (λ (l : List ℕ). Kept r l xs) (sym (L .words)) (kept-point r q (next r p) xs (R .stand q k .low) (next-small r p) k)
 
-pub left-falling : {r r′ : List ℕ} {tail t : ℕ} (p : ℕ) (xs : List ℕ) → Ring r tail xs → member p xs ≡ true → Left r r′ tail p t xs → Falling (priority r) xs → Falling (priority r′) (remove p xs)
-left-falling {r} p xs R m L f = kept-falling (left-kept p xs R m L) (remove p xs) (falling-remove (priority r) (priority r) p xs (λ x e. refl) f)
-
 -- ---- p has joined
 
 -- whom p follows stands in the ring, or is p
@@ -97,9 +84,6 @@ joined-kept {r} {tail} {p} xs s R J =
     (kept-trans
     (kept-point r p (next r q) (p ∷ xs) (s .low) (next-small r q) (member-here p xs))
     (kept-point (point r p (next r q)) q p (p ∷ xs) (b .low) (s .high) k))
-
-pub joined-falling : {r r′ : List ℕ} {tail p t : ℕ} (xs : List ℕ) → Stands r p → Ring r tail xs → Joined r r′ tail p t xs → Falling (priority r) xs → Falling (priority r′) (insert (priority r) p xs)
-joined-falling {r} {p} xs s R J f = kept-falling (joined-kept xs s R J) (insert (priority r) p xs) (falling-insert (priority r) p xs f)
 
 -- ---- the other rings
 

@@ -10,7 +10,7 @@ use lib.Dec.{eqb}
 use lib.ListN.{length}
 use Rattle.model.specs.Queue.{bit, inside, member, count, first, All}
 use Rattle.model.proofs.Tests.{bounds-inside, denied}
-use Rattle.model.proofs.Lists.{absent-count, member-count, at-most, all-map}
+use Rattle.model.proofs.Lists.{absent-count, at-most, all-map}
 use Rattle.ring.specs.Link.{Stands, next, point}
 use Rattle.ring.specs.Ring.{lastOf, Linked, Ring, takeWhile, aheadOf}
 use Rattle.ring.proofs.Links.{point-length, point-next-other}
@@ -55,10 +55,6 @@ module _ {r : List ℕ} {tail : ℕ} {xs : List ℕ} where
   pub to-ring : Linked (next r) tail xs → lastOf 0 xs ≡ tail → All (Stands r) xs → Distinct xs → Ring r tail xs
   to-ring l e s d = record { linked = l; ends = e; stand = members-all (Stands r) xs s; once = distinct-once xs d }
 
--- a process of a ring stands there once
-pub ring-once : {r : List ℕ} {tail : ℕ} (p : ℕ) (xs : List ℕ) → Ring r tail xs → member p xs ≡ true → count p xs ≡ 1
-ring-once p xs R m = omega (arith, R .once p, member-count p xs m)
-
 -- no ring has more processes than there are numbers
 pub ring-length : {r : List ℕ} {tail : ℕ} {xs : List ℕ} → Ring r tail xs → length xs ≤ 1024
 ring-length {xs} R = let h = at-most 1023 xs (λ p. go p (member p xs) refl) in omega arith
@@ -68,9 +64,6 @@ ring-length {xs} R = let h = at-most 1023 xs (λ p. go p (member p xs) refl) in 
     go p false m = omega (arith, absent-count p xs m)
 
 -- ---- the tail
-
-pub ring-tail : {r : List ℕ} {tail : ℕ} {xs : List ℕ} → Ring r tail xs → tail ≡ lastOf 0 xs
-ring-tail R = sym (R .ends)
 
 pub ring-tail-member : {r : List ℕ} {tail : ℕ} (xs : List ℕ) → Ring r tail xs → tail ≢ 0 → member tail xs ≡ true
 ring-tail-member [] R h = absurd (h (sym (R .ends)))

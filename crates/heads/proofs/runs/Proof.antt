@@ -52,6 +52,12 @@ mul-failed c = search needs
 shared-slice-read-failed : tie.Need-shared-slice-read-failed
 shared-slice-read-failed c = search needs
 
+cast-failed : tie.Need-cast-failed
+cast-failed c = search needs
+
+rem-failed : tie.Need-rem-failed
+rem-failed c = search needs
+
 returns-7 : tie.Need-returns-7
 returns-7 c x =
     let f = c .before .before .before .before .before in
@@ -90,5 +96,7 @@ runs-spec =
     mul-at
     mul-failed
     shared-slice-read-failed
+    cast-failed
+    rem-failed
     returns-7
     returns-8)
