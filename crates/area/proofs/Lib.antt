@@ -3,6 +3,7 @@ pub mod Stores
 pub mod Whole
 pub mod Rings
 pub mod States
+pub mod Agreeing
 pub mod Puts
 pub mod Records
 pub mod Fields

@@ -5,7 +5,7 @@ use native.Mathlib.Omega.{arith}
 use mathlib.Core.Path.{_≡_, refl, sym, ap, _∙_, subst, fun-ext}
 use mathlib.Core.Bool.{Bool, true, false, cond}
 use mathlib.Core.List.{List, [], _∷_}
-use lib.ListN.{length, getD}
+use lib.ListN.{length}
 use lib.Dec.{eqb}
 use Rattle.model.specs.declared.Shape.{Shape}
 use Rattle.model.specs.Queue.{Queue, inside, exists, member, first}
@@ -20,11 +20,11 @@ use Rattle.model.proofs.Places.{queue-length, waiting-is}
 use Rattle.ring.specs.Ring.{lastOf, Linked}
 use Rattle.area.specs.Layout.{Part, span, home, has, Image}
 use Rattle.area.specs.Layout.Part.{kept, tail, next, locked, waiting}
-use Rattle.area.specs.State.{last, firstOr, afterIn, queues, nextIn, laid}
+use Rattle.area.specs.State.{last, firstOr, afterIn, queues, nextIn, laid, write}
 use Rattle.area.specs.Reading.{shapeOf, partsOf, readFrom, queueOf, stateOf}
 use Rattle.area.specs.Sound.{Says, Sound}
 use Rattle.area.proofs.Stores.{word-ext, parts-said}
-use Rattle.area.proofs.Whole.{counts-in, image-shape}
+use Rattle.area.proofs.Whole.{counts-in, image-shape, stored-write}
 use Rattle.area.proofs.Fields.{room-span}
 use Rattle.area.proofs.Rings.{ring-ext, last-member, Once, once-rest, once-apart, member-inside, queue-once, queue-none, laid-ring, rings-laid}
 
@@ -134,10 +134,6 @@ module _ (n : Shape) (ws : List ℕ) (s : State model) (P : Placed n s) (im : Im
 
 -- ---- sound areas are the words of valid states
 
--- 16-bit words
-abbrev pub Words : List ℕ → Type 0
-Words ws = (i : ℕ) → getD ws i 0 < 65536
-
 module _ (n : Shape) (ws : List ℕ) (s : State model) (valid : Valid n s) (im : Image n ws (laid n s)) where
   pub state-says : Says n s ws
   state-says = record {
@@ -174,7 +170,7 @@ module _ (n : Shape) (ws : List ℕ) (s : State model) (valid : Valid n s) (im :
       (subst (λ (t : State model). Says n t ws) (sym (state-read n ws s (valid .placed) im)) state-says)
 
 -- the words of a sound area are those of the state that it says
-module _ (ws : List ℕ) (fit : Words ws) (S : Sound ws) where
+module _ (ws : List ℕ) (S : Sound ws) where
   own-ring : (q : Queue) → exists (shapeOf ws) q ≡ true → Linked (λ p. partsOf (shapeOf ws) ws (next p)) (last (stateOf ws .queues q)) (stateOf ws .queues q)
   own-ring q h = rw (S .closed q) (go (eqb (partsOf (shapeOf ws) ws (tail q)) 0))
     where
@@ -202,3 +198,7 @@ module _ (ws : List ℕ) (fit : Words ws) (S : Sound ws) where
     words = λ a h. S .tidy a h ∙ word-ext (shapeOf ws) (partsOf (shapeOf ws) ws) (laid (shapeOf ws) (stateOf ws)) a (λ f e. own-parts f (rw e h));
     spans = laid-spans (shapeOf ws) (stateOf ws) (S .valid .placed);
   }
+
+  -- its own state, written over it, leaves it as it is
+  pub sound-write : write (shapeOf ws) (stateOf ws) ws ≡ ws
+  sound-write = sym (stored-write (shapeOf ws) ws ws (stateOf ws) record { image = sound-image; beyond = refl })

@@ -6,7 +6,7 @@ use mathlib.Core.Bool.{true, not, _&&_}
 use mathlib.Core.List.{List, [], _∷_, _++_, map}
 use lib.Dec.{ltb}
 use lib.ListN.{length, getD, drop, take, length-append, length-drop, length-map, take-append-drop, List·getD-append}
-use lib.Seq.{ext-getD, getD-take, length-take-le}
+use lib.Seq.{ext-getD, getD-take, length-take-le, take-append-seam, drop-append-seam}
 use Rattle.model.specs.declared.Shape.{Shape}
 use Rattle.model.specs.Queue.{inside}
 use Rattle.model.specs.Machine.{State, model}
@@ -93,6 +93,19 @@ pub stored-write : (n : Shape) (old new : List ℕ) (s : State model) → Stored
 unfolding write
 stored-write n old new s st =
     sym (take-append-drop (size n) new) ∙ ap₂ (λ (x y : List ℕ). x ++ y) (image-whole n (laid n s) new (st .image)) (st .beyond)
+
+-- the words of a state stand below the size, and what lies beyond stays
+pub write-below : (n : Shape) (s : State model) (ws : List ℕ) → take (size n) (write n s ws) ≡ map (word n (laid n s)) (slots n)
+unfolding write
+write-below n s ws =
+    ap (λ (k : ℕ). take k (map (word n (laid n s)) (slots n) ++ drop (size n) ws)) (sym (mapped-long n (laid n s)))
+    ∙ take-append-seam (map (word n (laid n s)) (slots n)) (drop (size n) ws)
+
+pub write-beyond : (n : Shape) (s : State model) (ws : List ℕ) → drop (size n) (write n s ws) ≡ drop (size n) ws
+unfolding write
+write-beyond n s ws =
+    ap (λ (k : ℕ). drop k (map (word n (laid n s)) (slots n) ++ drop (size n) ws)) (sym (mapped-long n (laid n s)))
+    ∙ drop-append-seam (map (word n (laid n s)) (slots n)) (drop (size n) ws)
 
 -- the words of a state are an area that holds it
 pub write-image : (n : Shape) (old : List ℕ) (s : State model) → counted n ≡ true → size n ≤ length old → ((f : Part) → has n (home f) ≡ true → laid n s f < span f) → Image n (write n s old) (laid n s)

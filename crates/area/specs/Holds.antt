@@ -6,13 +6,12 @@ use mathlib.Core.List.{List}
 use lib.ListN.{drop}
 use Rattle.model.specs.declared.Shape.{Shape}
 use Rattle.model.specs.declared.Answer.{Answer}
-use Rattle.model.specs.Queue.{Queue, bit, inside, exists, member, move}
+use Rattle.model.specs.Queue.{Queue, bit, inside, exists, member, move, isCondition}
 use Rattle.model.specs.Queue.Queue.{ready}
 use Rattle.model.specs.Field.{Field, put, priorities}
 use Rattle.model.specs.Field.Field.{clock, running, priority, timer, failed, holder, wakeup}
 use Rattle.model.specs.Machine.{State, model, dispatch}
 use Rattle.model.specs.Valid.{room, Placed}
-use Rattle.model.specs.History.{isCondition}
 use Rattle.area.specs.declared.places.Place.{Place}
 use Rattle.area.specs.Layout.{at, size, Lies, Image}
 use Rattle.area.specs.Layout.Part.{kept}

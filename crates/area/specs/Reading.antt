@@ -1,13 +1,14 @@
 -- What words say, whatever they are: the counts, and the state that they would hold. Assumes nothing.
-use Prim.Native.Nat.{ℕ, zero, suc, _/_, _%_}
+use Prim.Native.Nat.{ℕ, zero, suc, _/_, _%_, _≤_}
+use mathlib.Core.Path.{_≡_}
 use mathlib.Core.Bool.{cond}
 use mathlib.Core.List.{List, [], _∷_}
 use lib.Dec.{eqb}
-use lib.ListN.{getD}
+use lib.ListN.{length, getD, take}
 use Rattle.model.specs.declared.Shape.{Shape}
 use Rattle.model.specs.Queue.{Queue}
 use Rattle.model.specs.Machine.{State, model}
-use Rattle.area.specs.Layout.{Parts, at, has, home, span, unit}
+use Rattle.area.specs.Layout.{Parts, at, has, home, span, unit, size}
 use Rattle.area.specs.Layout.Part.{kept, tail, next}
 
 -- the counts
@@ -32,3 +33,9 @@ abbrev pub stateOf : List ℕ → State model
 stateOf ws =
     let t = partsOf (shapeOf ws) ws in
     record { fields = λ f. t (kept f); queues = queueOf (shapeOf ws) t }
+
+-- two areas agree: both are long enough for the counts that the first says, and their words below that size are the same
+pub record Agree (a b : List ℕ) : Type 0 where
+  pub long : size (shapeOf a) ≤ length a
+  pub long-too : size (shapeOf a) ≤ length b
+  pub same : take (size (shapeOf a)) a ≡ take (size (shapeOf a)) b

@@ -1,6 +1,7 @@
 -- What the exports promise: what the functions behind them do, with each answer as one number. Assumes nothing.
 use Prim.Native.Nat.{ℕ, _<_}
 use mathlib.Core.Path.{_≡_}
+use mathlib.Core.Logic.{_↔_}
 use mathlib.Core.List.{List}
 use Rattle.model.specs.declared.Shape.{Shape}
 use Rattle.model.specs.declared.Call.{Call}
@@ -29,6 +30,5 @@ Writes kind number ws old new r = Conveys 10 listFields (ListsOn kind number ws 
 
 -- Sound: 1 exactly for a sound area, else 0
 pub record Judges (ws : List ℕ) (r : ℕ) : Type 0 where
-  pub yes : Sound ws → r ≡ 1
-  pub no : (Sound ws → ⊥) → r ≡ 0
+  pub says : (r ≡ 1) ↔ Sound ws
   pub bit : r < 2

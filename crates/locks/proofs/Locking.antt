@@ -13,20 +13,20 @@ use Rattle.model.specs.Queue.{outside, first, firstOnly}
 use Rattle.model.specs.Queue.Queue.{ready, lock}
 use Rattle.model.specs.Field.{put}
 use Rattle.model.specs.Field.Field.{running, failed, holder}
-use Rattle.model.specs.Rules.{unless, decide, released}
+use Rattle.model.specs.Rules.{when, decide, released}
 use Rattle.model.specs.Rules.Effect.{accept}
 use Rattle.model.specs.Machine.{State, model, finish, refusal}
 use Rattle.model.proofs.Tests.{eqb-yes, eqb-no}
 use Rattle.model.proofs.Loops.{released-moved}
 use Rattle.area.specs.Holds.{Holds, Becomes, with, sent, Gives}
 use Rattle.area.specs.Calls.{Does, Calling, changed}
-use Rattle.moves.proofs.Outcomes.{unless-yes, unless-no, choose-yes, choose-no, Tested, calling-tested, refuses, refuses-by, accepts}
+use Rattle.moves.proofs.Outcomes.{when-yes, when-no, choose-yes, choose-no, Tested, calling-tested, refuses, refuses-by, accepts}
 use Rattle.moves.proofs.Numbers.{first-only, nobody-first}
 
 -- ---- the rules, with r the running process, k the code of the tests that every call of a lock shares, and h the lock's holder
 
 module _ {n : Shape} {old : List ℕ} {s : State model} (H : Holds n old s) (l : ℕ) {r k : ℕ} (er : r ≡ s .fields running) (ek : Calling r (n .locks) l k) where
-  tested : Tested k (λ e. unless (eqb (s .fields running) 0) 6 (unless (outside (n .locks) l) 7 e))
+  tested : Tested k (λ e. when (eqb (s .fields running) 0) 6 (when (outside (n .locks) l) 7 e))
   tested = rw (← er) (calling-tested ek)
 
   pub enter-refused : {a : Answer} → k ≢ 0 → a ≡ refusal k → Does (Enter l) n old old s a
@@ -46,14 +46,14 @@ module _ {n : Shape} {old : List ℕ} {s : State model} (H : Holds n old s) (l :
 
     pub enter-own : {a : Answer} → h ≡ r → a ≡ refusal 8 → Does (Enter l) n old old s a
     unfolding decide
-    enter-own e = refuses H (Enter l) 8 (tested .passed z _ ∙ unless-yes 8 _ (own e))
+    enter-own e = refuses H (Enter l) 8 (tested .passed z _ ∙ when-yes 8 _ (own e))
 
     pub enter-free : {mid new : List ℕ} {a : Answer} → h ≢ r → h ≡ 0 → Becomes n old mid (with (holder l) r s)
         → Gives n mid new a (finish model (put (holder l) r (s .fields)) (s .queues) 1 0) → Does (Enter l) n old new s a
     unfolding decide
     enter-free d e =
         accepts H (Enter l) (put (holder l) r (s .fields)) [] 1 0
-        (tested .passed z _ ∙ unless-no 8 _ (foreign d) ∙ choose-yes _ _ (eqb-yes (s .fields (holder l)) 0 (sym eh ∙ e))
+        (tested .passed z _ ∙ when-no 8 _ (foreign d) ∙ choose-yes _ _ (eqb-yes (s .fields (holder l)) 0 (sym eh ∙ e))
         ∙ ap {A = ℕ} (λ x. accept (put (holder l) x (s .fields)) [] 1) (sym er))
         refl
 
@@ -62,13 +62,13 @@ module _ {n : Shape} {old : List ℕ} {s : State model} (H : Holds n old s) (l :
     unfolding decide
     enter-taken d e =
         accepts H (Enter l) (put (failed r) 1 (s .fields)) ((r, lock l) ∷ []) 0 0
-        (tested .passed z _ ∙ unless-no 8 _ (foreign d) ∙ choose-no _ _ (eqb-no (s .fields (holder l)) 0 (λ k. e (eh ∙ k)))
+        (tested .passed z _ ∙ when-no 8 _ (foreign d) ∙ choose-no _ _ (eqb-no (s .fields (holder l)) 0 (λ k. e (eh ∙ k)))
         ∙ ap {A = ℕ} (λ x. accept (put (failed x) 1 (s .fields)) ((x, lock l) ∷ []) 0) (sym er))
         refl
 
     pub exit-foreign : {a : Answer} → h ≢ r → a ≡ refusal 9 → Does (Exit l) n old old s a
     unfolding decide
-    exit-foreign d = refuses H (Exit l) 9 (tested .passed z _ ∙ unless-yes 9 _ (ap not (foreign d)))
+    exit-foreign d = refuses H (Exit l) 9 (tested .passed z _ ∙ when-yes 9 _ (ap not (foreign d)))
 
     pub exit-own : {mid new : List ℕ} {a : Answer} {m : ℕ} → h ≡ r
         → (m ≡ length (firstOnly (s .queues (lock l)))) × Becomes n old mid (changed (put (holder l) 0 (s .fields)) (released (s .queues) l) s)
@@ -76,7 +76,7 @@ module _ {n : Shape} {old : List ℕ} {s : State model} (H : Holds n old s) (l :
     unfolding decide
     exit-own e t =
         accepts H (Exit l) (put (holder l) 0 (s .fields)) (released (s .queues) l) 0 _
-        (tested .passed z _ ∙ unless-no 9 _ (ap not (own e)))
+        (tested .passed z _ ∙ when-no 9 _ (ap not (own e)))
         (t .0 ∙ sym (released-moved (n .processes) (s .queues) (H .placed .place) (H .placed .once) l)) (t .1)
 
 -- ---- a lock is released: nobody waits for it, or the first who does moves

@@ -16,7 +16,7 @@ use Rattle.model.specs.Queue.{Queue, bit, outside, member, count, firstOnly, re
 use Rattle.model.specs.Queue.Queue.{ready, lock, condition}
 use Rattle.model.specs.Field.{Fields, put, priorities}
 use Rattle.model.specs.Field.Field.{clock, running, timer, holder, wakeup}
-use Rattle.model.specs.Rules.{unless, decide, released, alarm}
+use Rattle.model.specs.Rules.{when, decide, released, alarm}
 use Rattle.model.specs.Rules.Effect.{accept}
 use Rattle.model.specs.Machine.{State, model, moves, arrivals, finish, refusal}
 use Rattle.model.specs.Valid.{Valid}
@@ -26,7 +26,7 @@ use Rattle.model.proofs.Places.{moves-append, arrivals-append}
 use Rattle.model.proofs.Loops.{released-moved}
 use Rattle.area.specs.Holds.{Holds, Becomes, with, sent, Gives}
 use Rattle.area.specs.Calls.{Does, CallingTwo, changed}
-use Rattle.moves.proofs.Outcomes.{unless-yes, unless-no, choose-yes, choose-no, Tested, two-tested, refuses, refuses-by, accepts}
+use Rattle.moves.proofs.Outcomes.{when-yes, when-no, choose-yes, choose-no, Tested, two-tested, refuses, refuses-by, accepts}
 use Rattle.moves.proofs.Shared.{runner-stands}
 
 -- ---- the timer, 0 for none and 1 in the place of 0
@@ -79,7 +79,7 @@ module _ {n : Shape} {old : List ℕ} {s : State model} (H : Holds n old s) (l k
   abbrev asleep : Fields
   asleep = put (timer r) (alarm (s .fields clock) (t .0)) (left .fields)
 
-  tested : Tested j (λ e. unless (eqb (s .fields running) 0) 6 (unless (outside (n .locks) l || outside (n .conditions) k) 7 e))
+  tested : Tested j (λ e. when (eqb (s .fields running) 0) 6 (when (outside (n .locks) l || outside (n .conditions) k) 7 e))
   tested = rw (← er) (two-tested ej)
 
   pub wait-refused : {a : Answer} → j ≢ 0 → a ≡ refusal j → Does (Wait l k t) n old old s a
@@ -91,7 +91,7 @@ module _ {n : Shape} {old : List ℕ} {s : State model} (H : Holds n old s) (l k
     unfolding decide
     wait-foreign d =
         refuses H (Wait l k t) 9
-        (tested .passed z _ ∙ unless-yes 9 _ (ap not (eqb-no (s .fields (holder l)) (s .fields running) (λ e. d (eh ∙ e ∙ sym er)))))
+        (tested .passed z _ ∙ when-yes 9 _ (ap not (eqb-no (s .fields (holder l)) (s .fields running) (λ e. d (eh ∙ e ∙ sym er)))))
 
     module _ (o : h ≡ r) {w m : ℕ} (ew : w ≡ s .fields (wakeup k)) (em : m ≡ length (firstOnly (s .queues (lock l)))) where
       own : not (eqb (s .fields (holder l)) (s .fields running)) ≡ false
@@ -105,7 +105,7 @@ module _ {n : Shape} {old : List ℕ} {s : State model} (H : Holds n old s) (l k
       unfolding decide
       wait-over d =
           accepts H (Wait l k t) (put (wakeup k) 0 (left .fields)) (released (s .queues) l) 0 m
-          (tested .passed z _ ∙ unless-no 9 _ own ∙ choose-yes _ _ (ap not (eqb-no (s .fields (wakeup k)) 0 (λ e. d (ew ∙ e)))))
+          (tested .passed z _ ∙ when-no 9 _ own ∙ choose-yes _ _ (ap not (eqb-no (s .fields (wakeup k)) 0 (λ e. d (ew ∙ e)))))
           came
 
       pub wait-sleeps : {mid new : List ℕ} {a : Answer} → w ≡ 0 → Becomes n old mid (changed asleep ((r, condition k) ∷ []) left)
@@ -114,7 +114,7 @@ module _ {n : Shape} {old : List ℕ} {s : State model} (H : Holds n old s) (l k
       wait-sleeps {mid} {new} {a} e b g =
           let q = moves-append (priorities asleep) (released (s .queues) l) ((r, condition k) ∷ []) (s .queues) in
           accepts H (Wait l k t) {mid = mid} {new = new} {a = a} asleep (released (s .queues) l ++ ((r, condition k) ∷ [])) 1 m
-          (tested .passed z _ ∙ unless-no 9 _ own ∙ choose-no _ _ (ap not (eqb-yes (s .fields (wakeup k)) 0 (sym ew ∙ e)))
+          (tested .passed z _ ∙ when-no 9 _ own ∙ choose-no _ _ (ap not (eqb-yes (s .fields (wakeup k)) 0 (sym ew ∙ e)))
           ∙ ap {A = ℕ} (λ x. accept (put (timer x) (alarm (s .fields clock) (t .0)) (left .fields)) (released (s .queues) l ++ ((x, condition k) ∷ [])) 1) (sym er))
           (came ∙ (let d = arrivals-append (s .queues ready) (released (s .queues) l) ((r, condition k) ∷ []) in omega arith))
           (rw q b)

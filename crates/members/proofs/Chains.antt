@@ -1,5 +1,5 @@
 -- A ring that the walk accepts, and a ring that it is to accept: the processes from the first to the tail, each fresh in its turn. Assumes nothing.
-use Prim.Native.Nat.{ℕ, zero, suc, _+_, _-_, _≤_}
+use Prim.Native.Nat.{ℕ, zero, suc, _+_, _-_, _≤_, _<_}
 use native.Mathlib.Decide.{ℕ-discrete}
 use native.Mathlib.Omega.{arith}
 use mathlib.Core.Path.{_≡_, refl, sym, _∙_}
@@ -14,10 +14,13 @@ use Rattle.model.proofs.Lists.{all-map, member-here, member-there, member-count
 use Rattle.ring.specs.Link.{slot, link, next, priority}
 use Rattle.ring.specs.Ring.{lastOf, Linked}
 use Rattle.area.proofs.Rings.{Once, once-apart, last-member}
-use Rattle.area.proofs.States.{Words}
 use Rattle.members.specs.Walk.{isFresh, fitsIn, walked, ringed}
 use Rattle.members.proofs.Steps.{walk-out, walk-stale, walk-unfit, walk-last, walk-on, ring-empty, ring-walk}
 use Rattle.members.proofs.Tests.{fresh-is, is-fresh, Fits, fitting-is, is-fitting}
+
+-- 16-bit words
+abbrev pub Words : List ℕ → Type 0
+Words ws = (i : ℕ) → getD ws i 0 < 65536
 
 -- ---- lists
 

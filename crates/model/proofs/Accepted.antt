@@ -10,7 +10,7 @@ use Rattle.model.specs.declared.Call.the-variants.{Enter, Exit, Wait, No
 use Rattle.model.specs.Queue.{Queue, Note}
 use Rattle.model.specs.Queue.Queue.{condition}
 use Rattle.model.specs.Field.{Fields}
-use Rattle.model.specs.Rules.{Effect, unless, choose, nakedly, decide}
+use Rattle.model.specs.Rules.{Effect, when, choose, nakedly, decide}
 use Rattle.model.specs.Rules.Effect.{refuse, accept}
 use Rattle.model.proofs.Tests.{so, leb-case, and-split}
 
@@ -23,10 +23,10 @@ pub data Accepted (P : Fields → List Note → ℕ → Type 0) : Effect → Typ
   accepted : {f : Fields} {ms : List Note} {k : ℕ} → P f ms k → Accepted P (accept f ms k)
 
 module _ {P : Fields → List Note → ℕ → Type 0} where
-  pub unless-by : {b : Bool} (k : ℕ) {e : Effect} → refusing k ≡ true → (b ≡ false → Accepted P e) → Accepted P (unless b k e)
-  unfolding unless
-  unless-by {b = true} k z h = refused z
-  unless-by {b = false} k z h = h refl
+  pub when-by : {b : Bool} (k : ℕ) {e : Effect} → refusing k ≡ true → (b ≡ false → Accepted P e) → Accepted P (when b k e)
+  unfolding when
+  when-by {b = true} k z h = refused z
+  when-by {b = false} k z h = h refl
 
   pub choose-by : {b : Bool} {d e : Effect} → (b ≡ true → Accepted P d) → (b ≡ false → Accepted P e) → Accepted P (choose b d e)
   unfolding choose
@@ -55,15 +55,15 @@ Marked f ms k = leb k 1 ≡ true
 pub decide-marks : (n : Shape) (s : Fields) (qs : Queue → List ℕ) (c : Call) → Accepted Marked (decide n s qs c)
 unfolding decide nakedly
 decide-marks n s qs (Enter l) =
-    unless-by _ refl (λ _. unless-by _ refl (λ _. unless-by _ refl (λ _. choose-by (λ _. accepted refl) (λ _. accepted refl))))
-decide-marks n s qs (Exit l) = unless-by _ refl (λ _. unless-by _ refl (λ _. unless-by _ refl (λ _. accepted refl)))
+    when-by _ refl (λ _. when-by _ refl (λ _. when-by _ refl (λ _. choose-by (λ _. accepted refl) (λ _. accepted refl))))
+decide-marks n s qs (Exit l) = when-by _ refl (λ _. when-by _ refl (λ _. when-by _ refl (λ _. accepted refl)))
 decide-marks n s qs (Wait l c t) =
-    unless-by _ refl (λ _. unless-by _ refl (λ _. unless-by _ refl (λ _. choose-by (λ _. accepted refl) (λ _. accepted refl))))
-decide-marks n s qs (Notify c) = unless-by _ refl (λ _. unless-by _ refl (λ _. accepted refl))
-decide-marks n s qs (Broadcast c) = unless-by _ refl (λ _. unless-by _ refl (λ _. accepted refl))
-decide-marks n s qs (Naked c) = unless-by _ refl (λ _. nakedly-by c (qs (condition c)) s (λ _. accepted refl) (λ x ys _. accepted refl))
-decide-marks n s qs (Requeue a b p) = unless-by _ refl (λ _. unless-by _ refl (λ _. accepted refl))
-decide-marks n s qs (SetPriority v) = unless-by _ refl (λ _. unless-by _ refl (λ _. accepted refl))
+    when-by _ refl (λ _. when-by _ refl (λ _. when-by _ refl (λ _. choose-by (λ _. accepted refl) (λ _. accepted refl))))
+decide-marks n s qs (Notify c) = when-by _ refl (λ _. when-by _ refl (λ _. accepted refl))
+decide-marks n s qs (Broadcast c) = when-by _ refl (λ _. when-by _ refl (λ _. accepted refl))
+decide-marks n s qs (Naked c) = when-by _ refl (λ _. nakedly-by c (qs (condition c)) s (λ _. accepted refl) (λ x ys _. accepted refl))
+decide-marks n s qs (Requeue a b p) = when-by _ refl (λ _. when-by _ refl (λ _. accepted refl))
+decide-marks n s qs (SetPriority v) = when-by _ refl (λ _. when-by _ refl (λ _. accepted refl))
 decide-marks n s qs Tick = accepted refl
 
 -- no rule refuses with code 0, nor with code 1

@@ -6,13 +6,12 @@ use mathlib.Core.Bool.{Bool, true, false, _&&_, cond, and-false, false≢true}
 use mathlib.Core.List.{List, [], _∷_}
 use lib.Dec.{eqb}
 use Rattle.model.specs.declared.Shape.{Shape}
-use Rattle.model.specs.Queue.{Queue, inside, same, exists, member, first, Falling, toReady}
+use Rattle.model.specs.Queue.{Queue, inside, same, exists, member, first, Falling, toReady, isCondition}
 use Rattle.model.specs.Queue.Queue.{ready, park, lock, condition}
 use Rattle.model.specs.Field.{Field, Fields, put, some, priorities}
 use Rattle.model.specs.Field.Field.{clock, running, priority, timer, failed, holder, wakeup}
 use Rattle.model.specs.Rules.{counted, calm}
 use Rattle.model.specs.Machine.{State, model}
-use Rattle.model.specs.History.{isCondition}
 use Rattle.model.specs.Valid.{each, room, Valid}
 use Rattle.model.proofs.Tests.{holds, fails, so, not-so, EqCase, eqb-case, PutCase, put-case, not-true, not-false, bounds-inside}
 use Rattle.model.proofs.Lists.{nobody, member-here, member-there}

@@ -1,73 +1,47 @@
 -- Demand 3 of states: over every history the model is what the ledger reads as, and it stays valid. From the simulation, validity and the account. Assumes nothing.
 use Prim.Native.Nat.{ℕ, _+_, _≤_}
 use native.Mathlib.Omega.{arith}
-use mathlib.Core.Path.{_≡_, refl, ap, sym, _∙_, subst}
+use mathlib.Core.Path.{_≡_, refl, ap, sym, _∙_, subst, fun-ext}
 use mathlib.Core.Logic.{_≢_, _↔_}
-use mathlib.Core.Bool.{Bool, true, false, _&&_, false≢true}
+use mathlib.Core.Bool.{true, false, false≢true}
 use mathlib.Core.List.{List, [], _∷_}
 use Rattle.model.specs.declared.Shape.{Shape}
 use Rattle.model.specs.declared.Call.{Call}
 use Rattle.model.specs.declared.Answer.{Answer}
-use Rattle.model.specs.Queue.{Queue, Note, upTo, inside, bit, same, exists, member, count, first, toReady, All}
-use Rattle.model.specs.Queue.Queue.{ready}
+use Rattle.model.specs.Queue.{Queue, upTo, inside, anyOf, bit, same, exists, member, count, first, toReady, All}
+use Rattle.model.specs.Queue.Queue.{ready, condition}
 use Rattle.model.specs.Field.{priorities}
 use Rattle.model.specs.Field.Field.{running, holder}
 use Rattle.model.specs.Rules.{Effect, startCode, fresh}
 use Rattle.model.specs.Rules.Effect.{refuse, accept}
 use Rattle.model.specs.Machine.{Machine, State, model, moves, start, obey, step, after, answers, waiting, locked}
-use Rattle.model.specs.Ledger.{ledger, reading, noted, lies}
+use Rattle.model.specs.Ledger.{ledger, reading, lies}
 use Rattle.model.specs.Valid.{Valid}
-use Rattle.model.specs.History.{History, isEntry, isLeaving, tally, end, isCondition}
-use Rattle.model.proofs.Tests.{so, same-case, same-yes, and-split, bit-split}
-use Rattle.model.proofs.Lists.{member-here}
+use Rattle.model.specs.History.{History, isEntry, isLeaving, tally, end}
+use Rattle.model.proofs.Lists.{member-here, member-bit}
 use Rattle.model.proofs.Notes.{reading-count}
 use Rattle.model.proofs.Fields.{dispatch-priorities, dispatch-away}
 use Rattle.model.proofs.Accepted.{Accepted, Marked, of-refuse, decide-marks}
 use Rattle.model.proofs.Simulation.{Bounded, view, both, after-view, answers-view, start-view}
 use Rattle.model.proofs.Locks.{held, account}
-use Rattle.model.proofs.Places.{Stands, stands-at, waiting-is}
+use Rattle.model.proofs.Places.{stands-at}
 use Rattle.model.proofs.Kept.{valid-bounded, given, fresh-bounded, start-valid, after-valid}
 
 -- ---- places by notes
-
-bit-none : (b : Bool) → bit (b && true) ≡ 0 → b ≡ false
-bit-none true e = let z : ⊥ = omega arith in absurd z
-bit-none false e = refl
 
 module _ (n : Shape) (m : State model) (l : State ledger) (mv : m ≡ view l) (v : Valid n m) where
   queues-are : (q : Queue) → m .queues q ≡ reading (priorities (l .fields)) (l .queues) q
   queues-are q = ap {A = State model} (λ t. t .queues q) mv
 
-  noted-count : (p : ℕ) (q : Queue) → count p (m .queues q) ≡ bit (noted p (l .queues) && same (lies (l .queues) p) q)
-  noted-count p q = ap (count p) (queues-are q) ∙ reading-count (priorities (l .fields)) p q (l .queues)
+  as-noted-are : (p : ℕ) (q : Queue) → count p (m .queues q) ≡ bit (lies (l .queues) p q)
+  as-noted-are p q = ap (count p) (queues-are q) ∙ reading-count (priorities (l .fields)) p q (l .queues)
       (subst (λ (t : State model). priorities (t .fields) p ≤ 7) mv (valid-bounded n (m .fields) (v .placed .range) p))
 
-  -- the processes are those with a note, and the newest one says the place
-  noted-is : (p : ℕ) → (noted p (l .queues) ≡ inside (n .processes) p) × (inside (n .processes) p ≡ true → lies (l .queues) p ≡ v .placed .place p)
-  noted-is p = go (inside (n .processes) p) refl
-    where
-      ns : List Note
-      ns = l .queues
+  one-are : (p : ℕ) → inside (n .processes) p ≡ true → (q : Queue) × (exists n q ≡ true) × ((r : Queue) → count p (m .queues r) ≡ bit (same q r))
+  one-are p i = (v .placed .place p, v .placed .real p i, λ r. rw i at (v .placed .once p r))
 
-      go : (b : Bool) → inside (n .processes) p ≡ b → (noted p ns ≡ inside (n .processes) p) × (inside (n .processes) p ≡ true → lies ns p ≡ v .placed .place p)
-      go true e =
-          let u : count p (m .queues (v .placed .place p)) ≡ 1 = rw (e, same-yes (v .placed .place p) (v .placed .place p) refl) at (v .placed .once p (v .placed .place p)) in
-          let w = noted-count p (v .placed .place p) in
-          let t = and-split (noted p ns) (same (lies ns p) (v .placed .place p)) (bit-split (noted p ns && same (lies ns p) (v .placed .place p)) (omega arith)) in
-          (t .0 ∙ sym e, λ z. so (same-case (lies ns p) (v .placed .place p)) (t .1))
-      go false e =
-          let u : count p (m .queues (lies ns p)) ≡ 0 = rw e at (v .placed .once p (lies ns p)) in
-          let w : count p (m .queues (lies ns p)) ≡ bit (noted p ns && true) = rw (same-yes (lies ns p) (lies ns p) refl) at (noted-count p (lies ns p)) in
-          (bit-none (noted p ns) (sym w ∙ u) ∙ sym e, λ z. absurd (false≢true (sym e ∙ z)))
-
-  places-are : Stands (n .processes) (m .queues) (lies (l .queues))
-  places-are p q = rw (← ((noted-is p) .0)) (noted-count p q)
-
-  real-are : (p : ℕ) → inside (n .processes) p ≡ true → exists n (lies (l .queues) p) ≡ true
-  real-are p i = rw ((noted-is p) .1 i) (v .placed .real p i)
-
-  waiting-are : (p : ℕ) → waiting n (m .queues) p ≡ inside (n .processes) p && isCondition (lies (l .queues) p)
-  waiting-are p = waiting-is n (m .queues) (lies (l .queues)) places-are p (real-are p)
+  waiting-are : (p : ℕ) → waiting n (m .queues) p ≡ anyOf (n .conditions) (λ c. lies (l .queues) p (condition c))
+  waiting-are p = ap (anyOf (n .conditions)) (fun-ext (λ c. member-bit p (m .queues (condition c)) (lies (l .queues) p (condition c)) (as-noted-are p (condition c))))
 
   none-are : (m .fields running ≡ 0) ↔ (m .queues ready ≡ [])
   none-are = (λ e. go (m .queues ready) (sym (v .runs) ∙ e) (λ x z. (stands-at (n .processes) (m .queues) (v .placed .place) (v .placed .once) x ready z) .0), λ e. v .runs ∙ ap first e)
@@ -103,8 +77,8 @@ history n bytes cs ok = record {
   same-queues = queues-are n m l mv v;
   same-locked = λ j. ap {A = State model} (λ t. locked (t .fields) j) mv;
   same-waiting = waiting-are n m l mv v;
-  one-queue = places-are n m l mv v;
-  real-queue = real-are n m l mv v;
+  one-queue = one-are n m l mv v;
+  as-noted = as-noted-are n m l mv v;
   running-first = v .runs;
   running-none = none-are n m l mv v;
   entries = λ j. entries-are n cs ((start ledger n bytes) .0) j (rw (dispatch-away (holder j) (λ x t. refl) (λ x t. refl) inReady (fresh bytes)));

@@ -22,7 +22,7 @@ use Rattle.model.specs.Valid.{room, Valid}
 use Rattle.model.proofs.Tests.{holds, fails, so, not-so, stops, EqCase, eqb-case, eqb-yes, LeCase, leb-case, same-case, put-here, or-split, not-false, not-below, bit-small, inside-bounds, bounds-inside, outside-inside}
 use Rattle.model.proofs.Lists.{member-here, member-there, first-there, first-member, firstOnly-member, filter-member, upTo-member, filter-length, all-append}
 use Rattle.model.proofs.Fields.{calm-timer, dispatch-priorities, dispatch-running}
-use Rattle.model.proofs.Accepted.{Accepted, accepted, Marked, unless-by, choose-by, nakedly-by, of-refuse, decide-marks}
+use Rattle.model.proofs.Accepted.{Accepted, accepted, Marked, when-by, choose-by, nakedly-by, of-refuse, decide-marks}
 use Rattle.model.proofs.Simulation.{Bounded, Ranked, decide-keeps}
 use Rattle.model.proofs.Places.{sent, relocate, relocate-append, arrivals-few, arrivals-append, Stands, Movers, stands-moves, member-is, stands-at, queue-length, falling-all, falling-moves, stands-start}
 use Rattle.model.proofs.Good.{Fits, Good, good-put, good-zero, good-calm, good-move, good-ready, each-most, each-none, each-low, of-valid, to-valid}
@@ -199,23 +199,23 @@ module _ (n : Shape) (s : Fields) (qs : Queue → List ℕ) (v : Valid n record 
   -- every rule leaves what is valid but for dispatch
   decide-good : (c : Call) → Accepted (Fine n (v .placed .place)) (decide n s qs c)
   unfolding decide nakedly
-  decide-good (Enter l) = unless-by _ refl (λ r. unless-by _ refl (λ j. unless-by _ refl (λ o. choose-by
+  decide-good (Enter l) = when-by _ refl (λ r. when-by _ refl (λ j. when-by _ refl (λ o. choose-by
       (λ e. accepted (still (put (holder l) (s running) s) 1 (enters l r (outside-inside (n .locks) l j))))
       (λ e. accepted (one (put (failed (s running)) 1 s) 0 (s running) (lock l) ready (runner r) (queues-up l r (outside-inside (n .locks) l j) o))))))
-  decide-good (Exit l) = unless-by _ refl (λ r. unless-by _ refl (λ j. unless-by _ refl (λ o. accepted (leaving l))))
-  decide-good (Wait l c t) = unless-by _ refl (λ r. unless-by _ refl (λ j. unless-by _ refl (λ o. choose-by
+  decide-good (Exit l) = when-by _ refl (λ r. when-by _ refl (λ j. when-by _ refl (λ o. accepted (leaving l))))
+  decide-good (Wait l c t) = when-by _ refl (λ r. when-by _ refl (λ j. when-by _ refl (λ o. choose-by
       (λ e. accepted (stays l c))
       (λ e. accepted (sleeps l c (t .0) r (outside-inside (n .conditions) c ((or-split (outside (n .locks) l) (outside (n .conditions) c) j) .1)) e)))))
-  decide-good (Notify c) = unless-by _ refl (λ r. unless-by _ refl (λ j. accepted (waking s 0 (firstOnly (qs (condition c))) good (in-first (condition c)) (first-long (condition c)))))
-  decide-good (Broadcast c) = unless-by _ refl (λ r. unless-by _ refl (λ j. accepted (waking s 0 (qs (condition c)) good (in-queue (condition c)) (long (condition c)))))
-  decide-good (Naked c) = unless-by _ refl (λ j. nakedly-by c (qs (condition c)) s
+  decide-good (Notify c) = when-by _ refl (λ r. when-by _ refl (λ j. accepted (waking s 0 (firstOnly (qs (condition c))) good (in-first (condition c)) (first-long (condition c)))))
+  decide-good (Broadcast c) = when-by _ refl (λ r. when-by _ refl (λ j. accepted (waking s 0 (qs (condition c)) good (in-queue (condition c)) (long (condition c)))))
+  decide-good (Naked c) = when-by _ refl (λ j. nakedly-by c (qs (condition c)) s
       (λ e. accepted (still (put (wakeup c) 1 s) 1 (rings c (outside-inside (n .conditions) c j) e)))
       (λ x ys e. accepted (waking s 0 (x ∷ []) good (λ p z. in-first (condition c) p (rw e z)) (let w : length (firstOnly (qs (condition c))) ≤ n .processes = first-long (condition c) in rw e at w))))
-  decide-good (Requeue a b p) = unless-by _ refl (λ j. unless-by _ refl (λ o.
+  decide-good (Requeue a b p) = when-by _ refl (λ j. when-by _ refl (λ o.
       let k = or-split (ltb (n .parks) a || ltb (n .parks) b) (outside (n .processes) (p .0)) j in
       let m = not-false (member (p .0) (qs (readyOrPark a))) o in
       accepted (one s 0 (p .0) (readyOrPark b) (readyOrPark a) m (requeues a b (p .0) (not-below (n .parks) b ((or-split (ltb (n .parks) a) (ltb (n .parks) b) (k .0)) .1)) m))))
-  decide-good (SetPriority w) = unless-by _ refl (λ r. unless-by _ refl (λ e.
+  decide-good (SetPriority w) = when-by _ refl (λ r. when-by _ refl (λ e.
       accepted (one (put (priority (s running)) (w .0) s) 0 (s running) ready ready (runner r) (ranks (w .0) r (not-below 7 (w .0) e)))))
   decide-good Tick = let now = (s clock + 1) % 65536 in let h : now < 65536 = omega arith in
       accepted (waking (put clock now s) 0 (due n s now) (good-put n s (v .placed .place) clock now good h tt) (in-due now) (due-long now))

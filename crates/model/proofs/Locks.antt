@@ -19,7 +19,7 @@ use Rattle.model.specs.Machine.{Machine, State, moves, refusal, obey, st
 use Rattle.model.specs.History.{isEntry, isLeaving, tally}
 use Rattle.model.proofs.Tests.{holds, fails, so, EqCase, eqb-case, eqb-no, put-here, put-away, not-false}
 use Rattle.model.proofs.Fields.{calm-away, dispatch-away}
-use Rattle.model.proofs.Accepted.{Accepted, accepted, unless-by, choose-by, nakedly-by, of-refuse}
+use Rattle.model.proofs.Accepted.{Accepted, accepted, when-by, choose-by, nakedly-by, of-refuse}
 
 -- 1 while a lock is locked
 abbrev pub held : Fields → ℕ → ℕ
@@ -60,15 +60,15 @@ calmed s l ps = rw (calm-away (holder l) (λ p t. refl) ps s) (keep (held s l))
 decide-fair : (n : Shape) (s : Fields) (qs : Queue → List ℕ) (l : ℕ) (c : Call) → Accepted (Fair s l c) (decide n s qs c)
 unfolding decide nakedly
 decide-fair n s qs l (Enter j) =
-    unless-by _ refl (λ r. unless-by _ refl (λ _. unless-by _ refl (λ _. choose-by (λ e. accepted (λ a. taken s l j r e)) (λ _. accepted (λ a. rw and-false (keep (held s l)))))))
-decide-fair n s qs l (Exit j) = unless-by _ refl (λ r. unless-by _ refl (λ _. unless-by _ refl (λ e. accepted (λ a. left s l j r e))))
+    when-by _ refl (λ r. when-by _ refl (λ _. when-by _ refl (λ _. choose-by (λ e. accepted (λ a. taken s l j r e)) (λ _. accepted (λ a. rw and-false (keep (held s l)))))))
+decide-fair n s qs l (Exit j) = when-by _ refl (λ r. when-by _ refl (λ _. when-by _ refl (λ e. accepted (λ a. left s l j r e))))
 decide-fair n s qs l (Wait j c t) =
-    unless-by _ refl (λ r. unless-by _ refl (λ _. unless-by _ refl (λ e. choose-by (λ _. accepted (λ a. left s l j r e)) (λ _. accepted (λ a. left s l j r e)))))
-decide-fair n s qs l (Notify c) = unless-by _ refl (λ _. unless-by _ refl (λ _. accepted (λ a. calmed s l (firstOnly (qs (condition c))))))
-decide-fair n s qs l (Broadcast c) = unless-by _ refl (λ _. unless-by _ refl (λ _. accepted (λ a. calmed s l (qs (condition c)))))
-decide-fair n s qs l (Naked c) = unless-by _ refl (λ _. nakedly-by c (qs (condition c)) s (λ _. accepted (λ a. keep (held s l))) (λ x ys _. accepted (λ a. keep (held s l))))
-decide-fair n s qs l (Requeue a b p) = unless-by _ refl (λ _. unless-by _ refl (λ _. accepted (λ a. keep (held s l))))
-decide-fair n s qs l (SetPriority v) = unless-by _ refl (λ _. unless-by _ refl (λ e. accepted (λ a. keep (held s l))))
+    when-by _ refl (λ r. when-by _ refl (λ _. when-by _ refl (λ e. choose-by (λ _. accepted (λ a. left s l j r e)) (λ _. accepted (λ a. left s l j r e)))))
+decide-fair n s qs l (Notify c) = when-by _ refl (λ _. when-by _ refl (λ _. accepted (λ a. calmed s l (firstOnly (qs (condition c))))))
+decide-fair n s qs l (Broadcast c) = when-by _ refl (λ _. when-by _ refl (λ _. accepted (λ a. calmed s l (qs (condition c)))))
+decide-fair n s qs l (Naked c) = when-by _ refl (λ _. nakedly-by c (qs (condition c)) s (λ _. accepted (λ a. keep (held s l))) (λ x ys _. accepted (λ a. keep (held s l))))
+decide-fair n s qs l (Requeue a b p) = when-by _ refl (λ _. when-by _ refl (λ _. accepted (λ a. keep (held s l))))
+decide-fair n s qs l (SetPriority v) = when-by _ refl (λ _. when-by _ refl (λ e. accepted (λ a. keep (held s l))))
 decide-fair n s qs l Tick = let now = (s clock + 1) % 65536 in accepted (λ a. calmed (put clock now s) l (due n s now))
 
 refusal-fair : (s : Fields) (l k : ℕ) (c : Call) → eqb k 0 ≡ false → Balanced s l c (refusal k) s

@@ -3,12 +3,12 @@ use Prim.Native.Nat.{ℕ, zero, suc, _+_, _≤_, _<_}
 use native.Mathlib.Nat.{zero-add}
 use native.Mathlib.Omega.{arith}
 use mathlib.Core.Path.{_≡_, refl, ap, sym, _∙_}
-use mathlib.Core.Bool.{Bool, true, false, _&&_, _||_, cond, or-false, or-assoc}
+use mathlib.Core.Bool.{Bool, true, false, _||_, cond, or-false, or-assoc}
 use mathlib.Core.List.{List, [], _∷_, _++_, append-assoc, append-nil}
 use lib.Dec.{eqb}
 use Rattle.model.specs.Queue.{Queue, Note, bit, same, count, remove, insert, move, All}
 use Rattle.model.specs.Ledger.{noted, newest, sentTo, lying, ofPriority, byPriority, reading, lies}
-use Rattle.model.proofs.Tests.{holds, fails, EqCase, eqb-case, eqb-yes, eqb-no, eqb-comm}
+use Rattle.model.proofs.Tests.{holds, fails, EqCase, eqb-case, eqb-yes, eqb-no, eqb-comm, or-split}
 use Rattle.model.proofs.Lists.{remove-append, count-append, all-append, SameOff, insert-skip, insert-front}
 
 -- ---- the newest notes, with one note more
@@ -146,11 +146,19 @@ reading-snoc f g m ns r off h = rw (lying-snoc r (m .0) (m .1) ns) (go (same (m 
 
 -- ---- a process stands where its newest note says
 
-newest-only : (b : Bool) (q r i : Queue) → bit (b && same q i) ≡ bit (b && same (cond b q r) i)
-newest-only true q r i = refl
-newest-only false q r i = refl
+unnoted : (p : ℕ) (q : Queue) (ns : List Note) → noted p ns ≡ false → lies ns p q ≡ false
+unnoted p q [] e = refl
+unnoted p q (m ∷ ms) e = let s = or-split (eqb (m .0) p) (noted p ms) e in rw (s .1, s .0)
 
-lying-count : (p : ℕ) (q : Queue) (ns : List Note) → count p (lying q ns) ≡ bit (noted p ns && same (lies ns p) q)
+-- a note about another says nothing of p
+passed : (p : ℕ) (q : Queue) (ns : List Note) → lies ns p q ≡ cond (noted p ns) (lies ns p q) false
+passed p q ns = go (noted p ns) refl
+  where
+    go : (b : Bool) → noted p ns ≡ b → lies ns p q ≡ cond b (lies ns p q) false
+    go true e = refl
+    go false e = unnoted p q ns e
+
+lying-count : (p : ℕ) (q : Queue) (ns : List Note) → count p (lying q ns) ≡ bit (lies ns p q)
 lying-count p q [] = refl
 lying-count p q (m ∷ ms) = go (noted (m .0) ms) refl (eqb-case (m .0) p) (lying-count p q ms)
   where
@@ -162,12 +170,11 @@ lying-count p q (m ∷ ms) = go (noted (m .0) ms) refl (eqb-case (m .0) p) (lyin
     none true z = rw z (omega arith)
     none false z = refl
 
-    go : (b : Bool) → noted (m .0) ms ≡ b → EqCase (m .0) p → count p (lying q ms) ≡ bit (noted p ms && same (lies ms p) q)
-        → count p (lying q (m ∷ ms)) ≡ bit (noted p (m ∷ ms) && same (lies (m ∷ ms) p) q)
-    go true e (holds d z) ih = rw (e, z, ← d, e) (rw (← d, e) at ih)
-    go true e (fails d z) ih = rw (e, z) (ih ∙ newest-only (noted p ms) (lies ms p) (m .1) q)
-    go false e (holds d z) ih = let w : noted p ms ≡ false = rw d at e in rw (e, z, w) (one (same (m .1) q) z (rw w at ih))
-    go false e (fails d z) ih = rw (e, z) (none (same (m .1) q) z ∙ ih ∙ newest-only (noted p ms) (lies ms p) (m .1) q)
+    go : (b : Bool) → noted (m .0) ms ≡ b → EqCase (m .0) p → count p (lying q ms) ≡ bit (lies ms p q) → count p (lying q (m ∷ ms)) ≡ bit (lies (m ∷ ms) p q)
+    go true e (holds d z) ih = let w : noted p ms ≡ true = rw d at e in rw (e, w) ih
+    go true e (fails d z) ih = rw (e, z) (ih ∙ ap bit (passed p q ms))
+    go false e (holds d z) ih = let w : noted p ms ≡ false = rw d at e in rw (e, z, w) (one (same (m .1) q) z (ih ∙ ap bit (unnoted p q ms w)))
+    go false e (fails d z) ih = rw (e, z) (none (same (m .1) q) z ∙ ih ∙ ap bit (passed p q ms))
 
 pub of-count : (pr : ℕ → ℕ) (v p : ℕ) (xs : List ℕ) → count p (ofPriority pr v xs) ≡ cond (eqb (pr p) v) (count p xs) 0
 of-count pr v p [] = go (eqb (pr p) v)
@@ -195,7 +202,7 @@ by-count pr (suc v) p xs h = rw (count-append p (ofPriority pr (suc v) xs) (byPr
     go (holds d z) ih = rw (z, by-count-high pr v p xs (omega arith)) (omega arith)
     go (fails d z) ih = rw (z, ih (omega arith)) (omega arith)
 
-pub reading-count : (pr : ℕ → ℕ) (p : ℕ) (q : Queue) (ns : List Note) → pr p ≤ 7 → count p (reading pr ns q) ≡ bit (noted p ns && same (lies ns p) q)
+pub reading-count : (pr : ℕ → ℕ) (p : ℕ) (q : Queue) (ns : List Note) → pr p ≤ 7 → count p (reading pr ns q) ≡ bit (lies ns p q)
 unfolding reading
 reading-count pr p q ns h = by-count pr 7 p (lying q ns) h ∙ lying-count p q ns
 

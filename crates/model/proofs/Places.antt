@@ -8,10 +8,9 @@ use mathlib.Core.List.{List, [], _∷_, _++_}
 use lib.Dec.{eqb}
 use lib.ListN.{length}
 use Rattle.model.specs.declared.Shape.{Shape}
-use Rattle.model.specs.Queue.{Queue, Note, inside, upTo, anyOf, bit, same, exists, member, count, remove, insert, move, toReady, All, Falling}
+use Rattle.model.specs.Queue.{Queue, Note, inside, upTo, anyOf, bit, same, exists, member, count, remove, insert, move, toReady, All, Falling, isCondition}
 use Rattle.model.specs.Queue.Queue.{ready, park, lock, condition}
 use Rattle.model.specs.Machine.{model, moves, arrivals, waiting}
-use Rattle.model.specs.History.{isCondition}
 use Rattle.model.proofs.Tests.{holds, fails, so, EqCase, eqb-case, eqb-yes, same-case, same-yes, and-split, bit-small, inside-bounds, bounds-inside}
 use Rattle.model.proofs.Lists.{count-remove-same, count-remove-other, count-insert, member-bit, at-most, inside-suc, SameOff, falling-remove, falling-insert}
 use Rattle.model.proofs.Simulation.{Agree, alike, lead}

@@ -21,7 +21,7 @@ use Rattle.model.specs.Machine.{Machine, State, moves, refusal, dispatch
 use Rattle.model.proofs.Tests.{holds, fails, so, not-so, EqCase, eqb-case, eqb-yes, eqb-no, put-here, put-away, and-split, not-true}
 use Rattle.model.proofs.Lists.{filter-member, member-filter, member-upTo, insert-skip, insert-front}
 use Rattle.model.proofs.Fields.{calm-away, dispatch-priorities, dispatch-running}
-use Rattle.model.proofs.Accepted.{Accepted, accepted, unless-by, choose-by}
+use Rattle.model.proofs.Accepted.{Accepted, accepted, when-by, choose-by}
 
 -- a newcomer goes behind its equals
 pub behind-equals : (pr : ℕ → ℕ) (p : ℕ) (xs ys : List ℕ) → All (λ x. pr p ≤ pr x) xs → All (λ y. pr y < pr p) ys → insert pr p (xs ++ ys) ≡ xs ++ (p ∷ ys)
@@ -35,31 +35,31 @@ module _ (n : Shape) (s : Fields) (qs : Queue → List ℕ) where
   -- Enter of a free lock takes it, whoever queues there
   pub enter-takes : (l : ℕ) → s (holder l) ≡ 0 → Accepted (λ g ms k. (g ≡ put (holder l) (s running) s) × (ms ≡ []) × (k ≡ 1)) (decide n s qs (Enter l))
   unfolding decide
-  enter-takes l e = unless-by _ refl (λ _. unless-by _ refl (λ _. unless-by _ refl (λ _. choose-by
+  enter-takes l e = when-by _ refl (λ _. when-by _ refl (λ _. when-by _ refl (λ _. choose-by
       (λ _. accepted (refl, refl, refl)) (λ z. absurd (not-so (eqb-case (s (holder l)) 0) z e)))))
 
   -- Exit hands the lock to nobody, and changes no other field
   pub exit-frees : (l : ℕ) → Accepted (λ g ms k. (g (holder l) ≡ 0) × ((f : Field) → holder l ≢ f → g f ≡ s f) × (ms ≡ released qs l) × (k ≡ 0)) (decide n s qs (Exit l))
   unfolding decide
-  exit-frees l = unless-by _ refl (λ _. unless-by _ refl (λ _. unless-by _ refl (λ _. accepted (put-here (holder l) 0 s, (λ f o. put-away (holder l) 0 s f o), refl, refl))))
+  exit-frees l = when-by _ refl (λ _. when-by _ refl (λ _. when-by _ refl (λ _. accepted (put-here (holder l) 0 s, (λ f o. put-away (holder l) 0 s f o), refl, refl))))
 
   -- Wait over a set wakeup clears it and keeps its caller's place: the lock's first alone moves
   pub wait-stays : (l c : ℕ) (t : Ticks) → some (s (wakeup c)) ≡ true
       → Accepted (λ g ms k. (g ≡ put (wakeup c) 0 (put (holder l) 0 s)) × (ms ≡ released qs l) × (k ≡ 0)) (decide n s qs (Wait l c t))
   unfolding decide
-  wait-stays l c t e = unless-by _ refl (λ _. unless-by _ refl (λ _. unless-by _ refl (λ _. choose-by
+  wait-stays l c t e = when-by _ refl (λ _. when-by _ refl (λ _. when-by _ refl (λ _. choose-by
       (λ _. accepted (refl, refl, refl)) (λ z. absurd (true≢false (sym e ∙ z))))))
 
   -- Notify sets no wakeup, and moves only to ready
   pub notify-wakes : (c : ℕ) → Accepted (λ g ms k. ((d : ℕ) → g (wakeup d) ≡ s (wakeup d)) × All (λ m. m .1 ≡ ready) ms × (ms ≡ toReady (firstOnly (qs (condition c)))) × (k ≡ 0)) (decide n s qs (Notify c))
   unfolding decide
-  notify-wakes c = unless-by _ refl (λ _. unless-by _ refl (λ _.
+  notify-wakes c = when-by _ refl (λ _. when-by _ refl (λ _.
       accepted ((λ d. calm-away (wakeup d) (λ p t. refl) (firstOnly (qs (condition c))) s), all-ready (firstOnly (qs (condition c))), refl, refl)))
 
   -- Broadcast wakes all of the queue, in its order
   pub broadcast-wakes : (c : ℕ) → Accepted (λ g ms k. (ms ≡ toReady (qs (condition c))) × (k ≡ 0)) (decide n s qs (Broadcast c))
   unfolding decide
-  broadcast-wakes c = unless-by _ refl (λ _. unless-by _ refl (λ _. accepted (refl, refl)))
+  broadcast-wakes c = when-by _ refl (λ _. when-by _ refl (λ _. accepted (refl, refl)))
 
 -- a wait of t ticks stores no timer of 0, unless t is 0
 pub alarm-rings : (now t : ℕ) → t ≢ 0 → alarm now t ≢ 0

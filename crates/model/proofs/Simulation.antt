@@ -18,7 +18,7 @@ use Rattle.model.proofs.Tests.{PutCase, holds, fails, put-case, put-awa
 use Rattle.model.proofs.Lists.{SameOff}
 use Rattle.model.proofs.Notes.{reading-snoc, reading-none}
 use Rattle.model.proofs.Fields.{calm-priorities, dispatch-priorities}
-use Rattle.model.proofs.Accepted.{Accepted, accepted, unless-by, choose-by, nakedly-by}
+use Rattle.model.proofs.Accepted.{Accepted, accepted, when-by, choose-by, nakedly-by}
 
 -- the ledger's state as the model has it
 abbrev pub view : State ledger → State model
@@ -72,16 +72,16 @@ module _ (n : Shape) (s : Fields) (qs : Queue → List ℕ) (h : Bounded (priori
   pub decide-keeps : (c : Call) → Accepted (Ranked (priorities s)) (decide n s qs c)
   unfolding decide nakedly
   decide-keeps (Enter l) =
-      unless-by _ refl (λ _. unless-by _ refl (λ _. unless-by _ refl (λ _. choose-by (λ _. accepted (alike refl, h)) (λ _. accepted (alike refl, h)))))
-  decide-keeps (Exit l) = unless-by _ refl (λ _. unless-by _ refl (λ _. unless-by _ refl (λ _. accepted (alike refl, h))))
+      when-by _ refl (λ _. when-by _ refl (λ _. when-by _ refl (λ _. choose-by (λ _. accepted (alike refl, h)) (λ _. accepted (alike refl, h)))))
+  decide-keeps (Exit l) = when-by _ refl (λ _. when-by _ refl (λ _. when-by _ refl (λ _. accepted (alike refl, h))))
   decide-keeps (Wait l c t) =
-      unless-by _ refl (λ _. unless-by _ refl (λ _. unless-by _ refl (λ _. choose-by (λ _. accepted (alike refl, h)) (λ _. accepted (alike refl, h)))))
-  decide-keeps (Notify c) = unless-by _ refl (λ _. unless-by _ refl (λ _. accepted (wakes-keep (firstOnly (qs (condition c))) s refl)))
-  decide-keeps (Broadcast c) = unless-by _ refl (λ _. unless-by _ refl (λ _. accepted (wakes-keep (qs (condition c)) s refl)))
-  decide-keeps (Naked c) = unless-by _ refl (λ _. nakedly-by c (qs (condition c)) s (λ _. accepted (alike refl, h)) (λ x ys _. accepted (alike refl, h)))
-  decide-keeps (Requeue a b p) = unless-by _ refl (λ _. unless-by _ refl (λ _. accepted (alike refl, h)))
+      when-by _ refl (λ _. when-by _ refl (λ _. when-by _ refl (λ _. choose-by (λ _. accepted (alike refl, h)) (λ _. accepted (alike refl, h)))))
+  decide-keeps (Notify c) = when-by _ refl (λ _. when-by _ refl (λ _. accepted (wakes-keep (firstOnly (qs (condition c))) s refl)))
+  decide-keeps (Broadcast c) = when-by _ refl (λ _. when-by _ refl (λ _. accepted (wakes-keep (qs (condition c)) s refl)))
+  decide-keeps (Naked c) = when-by _ refl (λ _. nakedly-by c (qs (condition c)) s (λ _. accepted (alike refl, h)) (λ x ys _. accepted (alike refl, h)))
+  decide-keeps (Requeue a b p) = when-by _ refl (λ _. when-by _ refl (λ _. accepted (alike refl, h)))
   decide-keeps (SetPriority v) =
-      unless-by _ refl (λ _. unless-by _ refl (λ e. accepted (lead (put-off s (s running) (v .0)), put-bounded s (s running) (v .0) (not-below 7 (v .0) e) h)))
+      when-by _ refl (λ _. when-by _ refl (λ e. accepted (lead (put-off s (s running) (v .0)), put-bounded s (s running) (v .0) (not-below 7 (v .0) e) h)))
   decide-keeps Tick = accepted (wakes-keep (due n s _) _ refl)
 
 -- ---- one call

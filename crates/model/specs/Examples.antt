@@ -10,7 +10,7 @@ use Rattle.model.specs.Queue.{Queue}
 use Rattle.model.specs.Queue.Queue.{ready, park, lock, condition}
 use Rattle.model.specs.Field.{Field, put, priorities}
 use Rattle.model.specs.Field.Field.{clock, running, priority, timer, failed, holder, wakeup}
-use Rattle.model.specs.Rules.{unless, choose, nakedly, decide, startCode}
+use Rattle.model.specs.Rules.{when, choose, nakedly, decide, startCode}
 use Rattle.model.specs.Machine.{Machine, State, model, start, step, after, answers}
 use Rattle.model.specs.Ledger.{ledger, reading}
 use Rattle.model.specs.Table.{Row, Holds, line}
@@ -292,5 +292,5 @@ scripts M =
 
 -- the scripts and Start's codes hold of both machines
 both-machines : Holds (starting ∷ scripts model ++ scripts ledger)
-unfolding step decide unless choose nakedly reading ℕ-discrete
+unfolding step decide when choose nakedly reading ℕ-discrete
 both-machines = refl

@@ -9,8 +9,8 @@ use Rattle.model.specs.declared.Shape.{Shape}
 use Rattle.model.specs.declared.Call.{Call}
 use Rattle.model.specs.declared.Call.the-variants.{Enter, Exit, Wait, Notify, Broadcast, Naked, Requeue, SetPriority, Tick}
 use Rattle.model.specs.declared.Answer.{Answer}
-use Rattle.model.specs.Queue.{Queue, inside, bit, same, exists, count, first, All}
-use Rattle.model.specs.Queue.Queue.{ready, park, lock, condition}
+use Rattle.model.specs.Queue.{Queue, inside, anyOf, bit, same, exists, count, first, All}
+use Rattle.model.specs.Queue.Queue.{ready, condition}
 use Rattle.model.specs.Field.{priorities}
 use Rattle.model.specs.Field.Field.{running}
 use Rattle.model.specs.Machine.{Machine, State, model, start, after, answers, locked, waiting}
@@ -59,24 +59,18 @@ end M n bytes cs = after M n ((start M n bytes) .0) cs
 abbrev pub replies : (M : Machine) → Shape → List ℕ → List Call → List Answer
 replies M n bytes cs = answers M n ((start M n bytes) .0) cs
 
-abbrev pub isCondition : Queue → Bool
-isCondition ready = false
-isCondition (park k) = false
-isCondition (lock l) = false
-isCondition (condition c) = true
-
 pub record History (n : Shape) (bytes : List ℕ) (cs : List Call) : Type 0 where
   -- every answer, field and queue is the ledger's
   pub same-start : (start model n bytes) .1 ≡ (start ledger n bytes) .1
   pub same-replies : replies model n bytes cs ≡ replies ledger n bytes cs
   pub same-fields : (end model n bytes cs) .fields ≡ (end ledger n bytes cs) .fields
   pub same-queues : (q : Queue) → (end model n bytes cs) .queues q ≡ reading (priorities ((end ledger n bytes cs) .fields)) ((end ledger n bytes cs) .queues) q
-  -- locked, and waiting: a process waits where its newest note says a condition
+  -- locked, and waiting: a process waits while it lies in a condition
   pub same-locked : (l : ℕ) → locked ((end model n bytes cs) .fields) l ≡ locked ((end ledger n bytes cs) .fields) l
-  pub same-waiting : (p : ℕ) → waiting n ((end model n bytes cs) .queues) p ≡ inside (n .processes) p && isCondition (lies ((end ledger n bytes cs) .queues) p)
-  -- each process stands in one queue, once: where its newest note says
-  pub one-queue : (p : ℕ) (q : Queue) → count p ((end model n bytes cs) .queues q) ≡ bit (inside (n .processes) p && same (lies ((end ledger n bytes cs) .queues) p) q)
-  pub real-queue : (p : ℕ) → inside (n .processes) p ≡ true → exists n (lies ((end ledger n bytes cs) .queues) p) ≡ true
+  pub same-waiting : (p : ℕ) → waiting n ((end model n bytes cs) .queues) p ≡ anyOf (n .conditions) (λ c. lies ((end ledger n bytes cs) .queues) p (condition c))
+  -- each process stands in one queue, once; and a number stands where its newest note says, and nowhere if it has none
+  pub one-queue : (p : ℕ) → inside (n .processes) p ≡ true → (q : Queue) × (exists n q ≡ true) × ((r : Queue) → count p ((end model n bytes cs) .queues r) ≡ bit (same q r))
+  pub as-noted : (p : ℕ) (q : Queue) → count p ((end model n bytes cs) .queues q) ≡ bit (lies ((end ledger n bytes cs) .queues) p q)
   -- running is the first of ready, and none exactly when ready is empty
   pub running-first : (end model n bytes cs) .fields running ≡ first ((end model n bytes cs) .queues ready)
   pub running-none : ((end model n bytes cs) .fields running ≡ 0) ↔ ((end model n bytes cs) .queues ready ≡ [])

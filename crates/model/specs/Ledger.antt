@@ -1,10 +1,9 @@
 -- The arrival ledger (01's term): a machine that keeps no queues, only notes of who went where, oldest first. Assumes nothing.
 use Prim.Native.Nat.{ℕ, zero, suc}
-use mathlib.Core.Bool.{Bool, false, _||_, cond}
+use mathlib.Core.Bool.{Bool, false, _&&_, _||_, cond}
 use mathlib.Core.List.{List, [], _∷_, _++_}
 use lib.Dec.{eqb}
 use Rattle.model.specs.Queue.{Queue, Note, same}
-use Rattle.model.specs.Queue.Queue.{ready}
 use Rattle.model.specs.Machine.{Machine}
 
 -- whether a note is about p
@@ -44,7 +43,7 @@ reading pr ms q = byPriority pr 7 (lying q ms)
 abbrev pub ledger : Machine
 ledger = record { Queues = List Note; none = []; read = reading; moved = λ pr ms m. ms ++ (m ∷ []) }
 
--- the queue where p lies
-abbrev pub lies : List Note → ℕ → Queue
-lies [] p = ready
-lies (m ∷ ms) p = cond (noted p ms) (lies ms p) (m .1)
+-- whether p lies in q: its newest note says so
+abbrev pub lies : List Note → ℕ → Queue → Bool
+lies [] p q = false
+lies (m ∷ ms) p q = cond (noted p ms) (lies ms p q) (eqb (m .0) p && same (m .1) q)

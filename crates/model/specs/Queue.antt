@@ -59,6 +59,13 @@ exists n (park k) = inside (n .parks) k
 exists n (lock l) = inside (n .locks) l
 exists n (condition c) = inside (n .conditions) c
 
+-- whether it is a condition's
+abbrev pub isCondition : Queue → Bool
+isCondition ready = false
+isCondition (park k) = false
+isCondition (lock l) = false
+isCondition (condition c) = true
+
 -- ---- lists, most of them of processes
 
 -- whether p is among them

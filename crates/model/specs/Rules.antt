@@ -22,9 +22,9 @@ pub data Effect : Type 0 where
   accept : Fields → List Note → ℕ → Effect
 
 -- code k where the test holds
-unfoldable pub unless : Bool → ℕ → Effect → Effect
-unless true k e = refuse k
-unless false k e = e
+unfoldable pub when : Bool → ℕ → Effect → Effect
+when true k e = refuse k
+when false k e = e
 
 unfoldable pub choose : Bool → Effect → Effect → Effect
 choose true d e = d
@@ -66,42 +66,42 @@ due n s now = filter (λ p. some (s (timer p)) && eqb (s (timer p)) now) (upTo (
 
 unfoldable pub decide : Shape → Fields → (Queue → List ℕ) → Call → Effect
 decide n s qs (Enter l) =
-    unless (eqb (s running) 0) 6
-    (unless (outside (n .locks) l) 7
-    (unless (eqb (s (holder l)) (s running)) 8
+    when (eqb (s running) 0) 6
+    (when (outside (n .locks) l) 7
+    (when (eqb (s (holder l)) (s running)) 8
     (choose (eqb (s (holder l)) 0)
     (accept (put (holder l) (s running) s) [] 1)
     (accept (put (failed (s running)) 1 s) ((s running, lock l) ∷ []) 0))))
 decide n s qs (Exit l) =
-    unless (eqb (s running) 0) 6
-    (unless (outside (n .locks) l) 7
-    (unless (not (eqb (s (holder l)) (s running))) 9
+    when (eqb (s running) 0) 6
+    (when (outside (n .locks) l) 7
+    (when (not (eqb (s (holder l)) (s running))) 9
     (accept (put (holder l) 0 s) (released qs l) 0)))
 decide n s qs (Wait l c t) =
-    unless (eqb (s running) 0) 6
-    (unless (outside (n .locks) l || outside (n .conditions) c) 7
-    (unless (not (eqb (s (holder l)) (s running))) 9
+    when (eqb (s running) 0) 6
+    (when (outside (n .locks) l || outside (n .conditions) c) 7
+    (when (not (eqb (s (holder l)) (s running))) 9
     (choose (some (s (wakeup c)))
     (accept (put (wakeup c) 0 (put (holder l) 0 s)) (released qs l) 0)
     (accept (put (timer (s running)) (alarm (s clock) (t .0)) (put (holder l) 0 s)) (released qs l ++ ((s running, condition c) ∷ [])) 1))))
 decide n s qs (Notify c) =
-    unless (eqb (s running) 0) 6
-    (unless (outside (n .conditions) c) 7
+    when (eqb (s running) 0) 6
+    (when (outside (n .conditions) c) 7
     (wake (firstOnly (qs (condition c))) s))
 decide n s qs (Broadcast c) =
-    unless (eqb (s running) 0) 6
-    (unless (outside (n .conditions) c) 7
+    when (eqb (s running) 0) 6
+    (when (outside (n .conditions) c) 7
     (wake (qs (condition c)) s))
 decide n s qs (Naked c) =
-    unless (outside (n .conditions) c) 7
+    when (outside (n .conditions) c) 7
     (nakedly c (qs (condition c)) s)
 decide n s qs (Requeue a b p) =
-    unless (ltb (n .parks) a || ltb (n .parks) b || outside (n .processes) (p .0)) 7
-    (unless (not (member (p .0) (qs (readyOrPark a)))) 10
+    when (ltb (n .parks) a || ltb (n .parks) b || outside (n .processes) (p .0)) 7
+    (when (not (member (p .0) (qs (readyOrPark a)))) 10
     (accept s ((p .0, readyOrPark b) ∷ []) 0))
 decide n s qs (SetPriority v) =
-    unless (eqb (s running) 0) 6
-    (unless (ltb 7 (v .0)) 4
+    when (eqb (s running) 0) 6
+    (when (ltb 7 (v .0)) 4
     (accept (put (priority (s running)) (v .0) s) ((s running, ready) ∷ []) 0))
 decide n s qs Tick =
     let now = (s clock + 1) % 65536 in

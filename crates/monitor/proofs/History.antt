@@ -5,7 +5,7 @@ use native.Mathlib.Omega.{arith}
 use mathlib.Core.Path.{_≡_, refl, sym, ap, _∙_, subst}
 use mathlib.Core.Logic.{_≢_, _↔_}
 use mathlib.Core.Bool.{Bool, true, false}
-use mathlib.Core.List.{List, [], _∷_}
+use mathlib.Core.List.{List, [], _∷_, map}
 use lib.Dec.{eqb, ltb}
 use lib.ListN.{length}
 use Rattle.model.specs.declared.Shape.{Shape}
@@ -21,7 +21,7 @@ use Rattle.model.specs.Machine.{State, model, step, start, after, answers}
 use Rattle.model.specs.Ledger.{ledger}
 use Rattle.model.specs.History.{History, isEntry, isLeaving, tally, end, replies}
 use Rattle.model.specs.Valid.{Valid}
-use Rattle.model.proofs.Tests.{Case, holds, fails, eqb-case, not-below}
+use Rattle.model.proofs.Tests.{Case, EqCase, holds, fails, eqb-case, not-below}
 use Rattle.model.proofs.Kept.{step-valid, start-valid}
 use Rattle.model.proofs.History.{history}
 use Rattle.area.specs.Layout.{size, Image}
@@ -33,7 +33,7 @@ use Rattle.area.proofs.Whole.{write-image, image-shape}
 use Rattle.area.proofs.States.{laid-spans, state-read, state-says, image-sound}
 use Rattle.start.specs.Start.{startOn, Starts}
 use Rattle.monitor.specs.Calls.{Performs}
-use Rattle.monitor.specs.History.{Run, Ends}
+use Rattle.monitor.specs.History.{Run, Ends, Demand3}
 use Rattle.monitor.specs.History.Run.{none, then}
 
 -- ws are the words of the valid state s
@@ -74,11 +74,11 @@ module _ {n : Shape} {ws : List ℕ} {s : State model} (K : Keeps n ws s) where
 
 -- ---- a list of calls
 
-pub run-answers : {n : Shape} {cs : List Call} {old new : List ℕ} {rs : List Answer} (s : State model) → Keeps n old s → Run cs old new rs → rs ≡ answers model n s cs
+pub run-answers : {n : Shape} {cs : List Call} {old new : List ℕ} {rs : List Answer} (s : State model) → Keeps n old s → Run Performs cs old new rs → rs ≡ answers model n s cs
 run-answers s K none = refl
 run-answers {n} s K (then {c} P R) = λ i. step-answer K P i ∷ run-answers ((step model n s c) .0) (step-keeps K P) R i
 
-pub run-keeps : {n : Shape} {cs : List Call} {old new : List ℕ} {rs : List Answer} (s : State model) → Keeps n old s → Run cs old new rs → Keeps n new (after model n s cs)
+pub run-keeps : {n : Shape} {cs : List Call} {old new : List ℕ} {rs : List Answer} (s : State model) → Keeps n old s → Run Performs cs old new rs → Keeps n new (after model n s cs)
 run-keeps s K none = K
 run-keeps {n} s K (then {c} P R) = run-keeps ((step model n s c) .0) (step-keeps K P) R
 
@@ -93,45 +93,60 @@ start-accepted n bytes words e = go (eqb-case (startCode n bytes) 0) (ltb words 
     go (holds d z) false k = (d, not-below words (size n) k)
     go (holds d z) true k = let w : _≡_ {A = ℕ} 5 0 = rw (z, k) at e in let y : ⊥ = omega arith in absurd y
 
-pub start-keeps : {n : Shape} {bytes old new : List ℕ} {a : Answer} → startOn n bytes (length old) ≡ 0 → Starts n bytes old new a → Keeps n new ((start model n bytes) .0)
-start-keeps {n} {bytes} {old} e S =
-    let k = start-accepted n bytes (length old) e in
-    rw (S .accepted e .1) (written n old ((start model n bytes) .0) (start-valid n bytes (k .0)) (k .1))
+module _ {n : Shape} {bytes old begun : List ℕ} {a : Answer} (S : Starts n bytes old begun a) (z : a .code ≡ 0) where
+  -- its code is 0 only where it is accepted
+  start-passes : startOn n bytes (length old) ≡ 0
+  start-passes = go (eqb-case (startOn n bytes (length old)) 0)
+    where
+      go : EqCase (startOn n bytes (length old)) 0 → startOn n bytes (length old) ≡ 0
+      go (holds d e) = d
+      go (fails d e) = absurd (d (sym (ap {A = Answer} (λ b. b .code) (S .refused d .0)) ∙ z))
 
--- ---- demand 3
+  fair : (startCode n bytes ≡ 0) × (size n ≤ length old)
+  fair = start-accepted n bytes (length old) start-passes
 
-pub demand3 : {n : Shape} {bytes old begun new : List ℕ} {a : Answer} {cs : List Call} {rs : List Answer}
-    → startOn n bytes (length old) ≡ 0 → Starts n bytes old begun a → Run cs begun new rs → Ends n bytes cs rs new
-demand3 {n} {bytes} {old} {new} {cs} {rs} e S R = record {
-  never-unsound = subst (λ (bs : List Answer). All (λ (b : Answer). b .code ≢ 1) bs) (sym told) (H .never-unsound);
-  sound = keeps-sound K;
-  counts = keeps-shape K;
-  answers = told;
-  queues = λ q. ap {A = State model} (λ t. t .queues q) (keeps-state K) ∙ H .same-queues q;
-  fields = λ f. ap {A = State model} (λ t. t .fields f) (keeps-state K) ∙ ap (λ (g : Fields). g f) (H .same-fields);
-  locks = λ l. locks-are l;
-  waits = λ p. keeps-says K .waits p ∙ ap bit (H .same-waiting p);
-  one-queue = λ p q. ap {A = State model} (λ t. count p (t .queues q)) (keeps-state K) ∙ H .one-queue p q;
-  real-queue = H .real-queue;
-  running-first = subst (λ (t : State model). t .fields running ≡ first (t .queues ready)) (sym (keeps-state K)) (H .running-first);
-  running-none = subst (λ (t : State model). (t .fields running ≡ 0) ↔ (t .queues ready ≡ [])) (sym (keeps-state K)) (H .running-none);
-  entries = λ l. entries-are l;
-}
-  where
-    k : (startCode n bytes ≡ 0) × (size n ≤ length old)
-    k = start-accepted n bytes (length old) e
+  pub start-keeps : Keeps n begun ((start model n bytes) .0)
+  start-keeps = rw (S .accepted start-passes .1) (written n old ((start model n bytes) .0) (start-valid n bytes (fair .0)) (fair .1))
 
+  -- ---- demand 3
+
+  module _ {new : List ℕ} {cs : List Call} {rs : List Answer} (R : Run Performs cs begun new rs) where
     H : History n bytes cs
-    H = history n bytes cs (k .0)
+    H = history n bytes cs (fair .0)
 
     K : Keeps n new (end model n bytes cs)
-    K = run-keeps ((start model n bytes) .0) (start-keeps e S) R
+    K = run-keeps ((start model n bytes) .0) start-keeps R
 
     told : rs ≡ replies ledger n bytes cs
-    told = run-answers ((start model n bytes) .0) (start-keeps e S) R ∙ H .same-replies
+    told = run-answers ((start model n bytes) .0) start-keeps R ∙ H .same-replies
 
     locks-are : (l : ℕ) → partsOf n new (locked l) ≡ bit (machine.locked ((end ledger n bytes cs) .fields) l)
     locks-are l = keeps-says K .locks l ∙ ap bit (H .same-locked l)
 
     entries-are : (l : ℕ) → tally (isEntry l) cs rs ≡ tally (isLeaving l) cs rs + partsOf n new (locked l)
     entries-are l = rw (told, locks-are l) (H .entries l)
+
+    pub run-ends : Ends n bytes a cs rs new
+    run-ends = record {
+      never-unsound = subst (λ (bs : List Answer). All (λ (b : Answer). b .code ≢ 1) bs) (sym told) (H .never-unsound);
+      sound = keeps-sound K;
+      counts = keeps-shape K;
+      begins = S .accepted start-passes .0 ∙ H .same-start;
+      answers = told;
+      queues = λ q. ap {A = State model} (λ t. t .queues q) (keeps-state K) ∙ H .same-queues q;
+      fields = λ f. ap {A = State model} (λ t. t .fields f) (keeps-state K) ∙ ap (λ (g : Fields). g f) (H .same-fields);
+      locks = λ l. locks-are l;
+      waits = λ p. keeps-says K .waits p ∙ ap bit (H .same-waiting p);
+      one-queue = λ p i. let o = H .one-queue p i in (o .0, o .1, λ q. ap {A = State model} (λ t. count p (t .queues q)) (keeps-state K) ∙ o .2 q);
+      as-noted = λ p q. ap {A = State model} (λ t. count p (t .queues q)) (keeps-state K) ∙ H .as-noted p q;
+      running-first = subst (λ (t : State model). t .fields running ≡ first (t .queues ready)) (sym (keeps-state K)) (H .running-first);
+      running-none = subst (λ (t : State model). (t .fields running ≡ 0) ↔ (t .queues ready ≡ [])) (sym (keeps-state K)) (H .running-none);
+      entries = λ l. entries-are l;
+    }
+
+as-they-are : (rs : List Answer) → rs ≡ map (λ (a : Answer). a) rs
+as-they-are [] = refl
+as-they-are (a ∷ rs) = ap (λ (l : List Answer). a ∷ l) (as-they-are rs)
+
+pub demand3 : Demand3 (λ (a : Answer). a) Starts Performs
+demand3 = record { ends = λ {n} {bytes} {old} {begun} {new} {a} {cs} {rs} S z R. subst (λ (l : List Answer). Ends n bytes a cs l new) (as-they-are rs) (run-ends S z R) }

@@ -1,4 +1,5 @@
 pub mod Performs
-pub mod History
-pub mod Replays
 pub mod Wire
+pub mod History
+pub mod Promises
+pub mod Replays

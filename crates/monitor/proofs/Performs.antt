@@ -17,7 +17,7 @@ use Rattle.area.specs.Reading.{shapeOf, stateOf}
 use Rattle.area.specs.Sound.{Sound}
 use Rattle.area.specs.Holds.{Holds, Held, Becomes}
 use Rattle.area.proofs.Whole.{stored-write}
-use Rattle.area.proofs.States.{Words, sound-image}
+use Rattle.area.proofs.States.{sound-image}
 use Rattle.area.specs.Calls.{Stands, Does}
 use Rattle.queues.specs.declared.listing.Listed.{Listed}
 use Rattle.queues.specs.Listing.{Lists}
@@ -27,10 +27,10 @@ use Rattle.monitor.specs.Calls.{Performs, ListsOn}
 pub becomes-write : {n : Shape} {old new : List ℕ} {s : State model} → Becomes n old new s → new ≡ write n s old
 becomes-write {n} {old} {new} {s} b = stored-write n old new s record { image = b .holds .image; beyond = b .beyond }
 
--- a sound area of 16-bit words holds the state that it says
-module _ {old : List ℕ} (fit : Words old) (S : Sound old) where
+-- a sound area holds the state that it says
+module _ {old : List ℕ} (S : Sound old) where
   pub own-holds : Holds (shapeOf old) old (stateOf old)
-  own-holds = record { placed = S .valid .placed; image = sound-image old fit S }
+  own-holds = record { placed = S .valid .placed; image = sound-image old S }
 
   pub own-stands : Stands (shapeOf old) old
   own-stands = record { state = stateOf old; holds = own-holds; valid = S .valid }
@@ -56,9 +56,9 @@ checked r h k = h .0 (not-false r k)
 pub counts-there : {old : List ℕ} → Sound old → 3 ≤ length old
 counts-there S = let l = S .long in omega arith
 
-module _ {old : List ℕ} (n : Shape) (said : n ≡ shapeOf old) (fit : Words old) (S : Sound old) where
+module _ {old : List ℕ} (n : Shape) (said : n ≡ shapeOf old) (S : Sound old) where
   pub stands-at : Stands n old
-  stands-at = rw said (own-stands fit S)
+  stands-at = rw said (own-stands S)
 
   pub held-at : Held n old
   held-at = (stands-at .state, stands-at .holds)
@@ -66,7 +66,7 @@ module _ {old : List ℕ} (n : Shape) (said : n ≡ shapeOf old) (fit : Words ol
   pub performs-at : {c : Call} {new : List ℕ} {a : Answer} → ((s : State model) → Holds n old s → Valid n s → Does c n old new s a) → Performs c old new a
   performs-at {c} {new} {a} d =
       let e : (m : Shape) → n ≡ m → Holds m old (stateOf old) → Valid m (stateOf old) → Does c m old new (stateOf old) a = λ m p. subst (λ (k : Shape). Holds k old (stateOf old) → Valid k (stateOf old) → Does c k old new (stateOf old) a) p (d (stateOf old)) in
-      performs fit S (e (shapeOf old) said (own-holds fit S) (S .valid))
+      performs S (e (shapeOf old) said (own-holds S) (S .valid))
 
 -- a call known by what it is
 pub does-as : {c d : Call} {n : Shape} {old new : List ℕ} {a : Answer} (s : State model) → c ≡ d → Does d n old new s a → Does c n old new s a
@@ -77,8 +77,8 @@ does-as {n = n} {old = old} {new = new} {a = a} s e D = subst (λ (k : Call). Do
 pub lists-not : {kind number : ℕ} {ws buffer : List ℕ} {r : Listed} (b : Bool) → Checked ws b → not b ≡ true → r .code ≡ 1 → r .count ≡ 0 → ListsOn kind number ws buffer buffer r
 lists-not b h k c d = record { unsound = λ z. record { code = c; count = d; buffer = refl }; sound = λ S. absurd (true≢false (sym (h .1 S) ∙ not-true b k)) }
 
-pub lists-at : {kind number : ℕ} {ws old new : List ℕ} {r : Listed} (n : Shape) → n ≡ shapeOf ws → Words ws → Sound ws
+pub lists-at : {kind number : ℕ} {ws old new : List ℕ} {r : Listed} (n : Shape) → n ≡ shapeOf ws → Sound ws
     → ((s : State model) → Holds n ws s → Lists kind number n s old new r) → ListsOn kind number ws old new r
-lists-at {kind} {number} {ws} {old} {new} {r} n said fit S d =
+lists-at {kind} {number} {ws} {old} {new} {r} n said S d =
     let e : (m : Shape) → n ≡ m → Holds m ws (stateOf ws) → Lists kind number m (stateOf ws) old new r = λ m p. subst (λ (k : Shape). Holds k ws (stateOf ws) → Lists kind number k (stateOf ws) old new r) p (d (stateOf ws)) in
-    record { unsound = λ z. absurd (z S); sound = λ z. e (shapeOf ws) said (own-holds fit S) }
+    record { unsound = λ z. absurd (z S); sound = λ z. e (shapeOf ws) said (own-holds S) }

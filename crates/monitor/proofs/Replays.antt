@@ -7,32 +7,32 @@ use mathlib.Core.Logic.{_≢_}
 use mathlib.Core.Bool.{Bool, true, false, true≢false}
 use mathlib.Core.List.{List, [], _∷_, _++_, map, append-nil}
 use borrow.Author.Tests.{lt-ltb, le-ltb, ne-eqb}
-use lib.ListN.{length, getD, drop, set, length-append, length-drop}
-use lib.Seq.{drop-cons, append-snoc, set-append-seam, getD-drop, drop-drop}
-use Rattle.model.specs.declared.Shape.{Shape}
+use lib.ListN.{length, getD, take, drop, set, length-append, length-drop}
+use lib.Seq.{take-append-seam, drop-cons, append-snoc, set-append-seam, getD-drop, drop-drop}
 use Rattle.model.specs.declared.Call.{Call}
 use Rattle.model.specs.declared.Call.the-variants.{Enter, Exit, Wait, Notify, Broadcast, Naked, Requeue, SetPriority, Tick}
 use Rattle.model.specs.declared.Answer.{Answer}
-use Rattle.start.specs.Start.{startOn, Starts}
 use Rattle.monitor.specs.declared.replay.Record.{Record}
 use Rattle.monitor.specs.declared.replay.Record.the-variants.{Made, Malformed}
 use Rattle.monitor.specs.Calls.{Performs}
 use Rattle.monitor.specs.History.{Run, Ends}
 use Rattle.monitor.specs.History.Run.{none, then}
-use Rattle.monitor.specs.Wire.{numberOf}
-use Rattle.monitor.specs.Replay.{none2, none3, pick, made, operation, recorded, firstOf, follow, logged, Served, Replayed}
-use Rattle.monitor.proofs.History.{demand3}
+use Rattle.monitor.specs.Wire.{fields, numberOf, answerOf}
+use Rattle.monitor.specs.Replay.{none2, none3, pick, made, operation, recorded, firstOf, follow, logged, Served, Replayed, LogDemand3}
+use Rattle.monitor.proofs.Wire.{carries}
+use Rattle.monitor.proofs.History.{run-ends}
+use Rattle.monitor.proofs.Promises.{performs-fits, read-answer}
 
 -- ---- a run
 
 -- a run grows at its end
 pub run-more : {cs : List Call} {c : Call} {old mid new : List ℕ} {rs : List Answer} {a : Answer}
-    → Run cs old mid rs → Performs c mid new a → Run (cs ++ (c ∷ [])) old new (rs ++ (a ∷ []))
+    → Run Performs cs old mid rs → Performs c mid new a → Run Performs (cs ++ (c ∷ [])) old new (rs ++ (a ∷ []))
 run-more none P = then P none
 run-more (then Q R) P = then Q (run-more R P)
 
 -- a call, an answer
-pub run-length : {cs : List Call} {old new : List ℕ} {rs : List Answer} → Run cs old new rs → length cs ≡ length rs
+pub run-length : {cs : List Call} {old new : List ℕ} {rs : List Answer} → Run Performs cs old new rs → length cs ≡ length rs
 run-length none = refl
 run-length (then P R) = ap suc (run-length R)
 
@@ -156,7 +156,7 @@ op-none {k} a b c h0 h1 h2 h3 h4 h5 h6 h7 h8 =
 pub record Doing (log old now outOld outNow : List ℕ) (k : ℕ) : Type 0 where
   pub calls : List Call
   pub answers : List Answer
-  pub run : Run calls old now answers
+  pub run : Run Performs calls old now answers
   pub many : length answers ≡ k
   pub room : k ≤ length outOld
   pub rest : logged (length outOld) log ≡ calls ++ logged (length outOld - k) (drop (k * 4) log)
@@ -181,7 +181,7 @@ module _ {log old now outOld outNow : List ℕ} {k : ℕ} (D : Doing log old now
       let all : logged (length outOld) log ≡ D .calls = D .rest ∙ ap (λ (l : List Call). D .calls ++ l) e ∙ append-nil (D .calls) in
       record {
         answers = D .answers;
-        run = subst (λ (l : List Call). Run l old now (D .answers)) (sym all) (D .run);
+        run = subst (λ (l : List Call). Run Performs l old now (D .answers)) (sym all) (D .run);
         count = sym (ap length all ∙ run-length (D .run) ∙ D .many);
         written = D .written;
       }
@@ -239,8 +239,21 @@ module _ {log old now outOld outNow : List ℕ} {k : ℕ} (D : Doing log old now
 
 -- ---- demand 3
 
--- after an accepted Start, a log leaves the area and the answers that the ledger of the same calls has
-pub replay-demand3 : {n : Shape} {bytes old begun new log oldAnswers newAnswers : List ℕ} {a : Answer} {r : ℕ}
-    → startOn n bytes (length old) ≡ 0 → Starts n bytes old begun a → (R : Replayed log begun new oldAnswers newAnswers r)
-    → Ends n bytes (logged (length oldAnswers) log) (R .answers) new
-replay-demand3 e S R = demand3 e S (R .run)
+-- the answers come back out of their numbers
+run-read : {cs : List Call} {old new : List ℕ} {rs : List Answer} → Run Performs cs old new rs → rs ≡ map answerOf (map numberOf rs)
+run-read none = refl
+run-read (then {a = a} P R) = λ i. read-answer (carries 10 (fields a) refl (performs-fits P)) i ∷ run-read R i
+
+-- they stand at the front of what is written
+front : {log old new out outNew : List ℕ} {r : ℕ} (R : Replayed log old new out outNew r) → R .answers ≡ map answerOf (take r outNew)
+front {out = out} {outNew = outNew} {r = r} R =
+    let many : length (map numberOf (R .answers)) ≡ r = length-numbers (R .answers) ∙ sym (run-length (R .run)) ∙ sym (R .count) in
+    run-read (R .run)
+    ∙ ap (map answerOf)
+    (sym (ap (take r) (R .written) ∙ ap (λ (k : ℕ). take k (map numberOf (R .answers) ++ drop r out)) (sym many)
+    ∙ take-append-seam (map numberOf (R .answers)) (drop r out)))
+
+pub log-demand3 : LogDemand3
+log-demand3 = record {
+  ends = λ {n} {bytes} {old} {begun} {new} {log} {oldAnswers = out} {newAnswers} {a} S z R. subst (λ (l : List Answer). Ends n bytes a (logged (length out) log) l new) (front R) (run-ends S z (R .run));
+}

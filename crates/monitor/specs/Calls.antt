@@ -1,6 +1,7 @@
 -- What each of the nine calls, and List, promises of the words: 01's rules, on areas. Assumes nothing.
 use Prim.Native.Nat.{ℕ}
 use mathlib.Core.Path.{_≡_}
+use mathlib.Core.Logic.{_≢_}
 use mathlib.Core.List.{List}
 use Rattle.model.specs.declared.Call.{Call}
 use Rattle.model.specs.declared.Answer.{Answer}
@@ -21,3 +22,7 @@ pub record Performs (c : Call) (old new : List ℕ) (a : Answer) : Type 0 where
 pub record ListsOn (kind number : ℕ) (ws old new : List ℕ) (r : Listed) : Type 0 where
   pub unsound : (Sound ws → ⊥) → Unlisted old new r 1
   pub sound : Sound ws → Lists kind number (shapeOf ws) (stateOf ws) old new r
+
+-- a refusal spares the words: a code other than 0 comes with zeros beside it, and every word is as it was
+abbrev pub Spares : Answer → List ℕ → List ℕ → Type 0
+Spares a old new = a .code ≢ 0 → (a ≡ refusal (a .code)) × (new ≡ old)

@@ -4,15 +4,17 @@ use mathlib.Core.Path.{_≡_}
 use mathlib.Core.Bool.{Bool, true, false, _&&_}
 use mathlib.Core.List.{List, [], _∷_, _++_, map}
 use lib.Dec.{eqb, ltb}
-use lib.ListN.{length, getD, drop, set}
+use lib.ListN.{length, getD, take, drop, set}
+use Rattle.model.specs.declared.Shape.{Shape}
 use Rattle.model.specs.declared.Call.{Call}
 use Rattle.model.specs.declared.Call.the-variants.{Enter, Exit, Wait, Notify, Broadcast, Naked, Requeue, SetPriority, Tick}
 use Rattle.model.specs.declared.Answer.{Answer}
+use Rattle.start.specs.Start.{Starts}
 use Rattle.monitor.specs.declared.replay.Record.{Record}
 use Rattle.monitor.specs.declared.replay.Record.the-variants.{Made, Malformed}
 use Rattle.monitor.specs.Calls.{Performs}
-use Rattle.monitor.specs.History.{Run}
-use Rattle.monitor.specs.Wire.{numberOf}
+use Rattle.monitor.specs.History.{Run, Ends}
+use Rattle.monitor.specs.Wire.{numberOf, answerOf}
 
 -- ---- a record
 
@@ -77,6 +79,12 @@ pub record Served (x : Record) (old new outOld outNew : List ℕ) (k : ℕ) (r :
 -- order over the first r numbers
 pub record Replayed (log oldArea newArea oldAnswers newAnswers : List ℕ) (r : ℕ) : Type 0 where
   pub answers : List Answer
-  pub run : Run (logged (length oldAnswers) log) oldArea newArea answers
+  pub run : Run Performs (logged (length oldAnswers) log) oldArea newArea answers
   pub count : r ≡ length (logged (length oldAnswers) log)
   pub written : newAnswers ≡ map numberOf answers ++ drop r oldAnswers
+
+-- demand 3 of a log: after an accepted Start, the answers that are written and the area are those of the ledger that is fed the same calls
+pub record LogDemand3 : Type 0 where
+  pub ends : {n : Shape} {bytes old begun new log oldAnswers newAnswers : List ℕ} {a : Answer} {r : ℕ}
+      → Starts n bytes old begun a → a .code ≡ 0 → Replayed log begun new oldAnswers newAnswers r
+      → Ends n bytes a (logged (length oldAnswers) log) (map answerOf (take r newAnswers)) new

@@ -1,6 +1,5 @@
 -- Answers as numbers: a list of fields in one number, w bits a field, the first lowest. Assumes nothing.
 use Prim.Native.Nat.{ℕ, zero, suc, _+_, _*_, _/_, _%_, _^_}
-use native.Mathlib.Nat.{div-div-eq-div-mul}
 use mathlib.Core.Path.{_≡_}
 use mathlib.Core.List.{List, [], _∷_}
 use lib.ListN.{length}
@@ -36,7 +35,12 @@ numberOf a = packed 10 (fields a)
 abbrev pub listFields : Listed → List ℕ
 listFields l = l .code ∷ l .count ∷ []
 
--- where an answer's five stand: code in bits 0 to 9, running in 10 to 19, retry in 20 to 29, mark in 30 to 39, moved in 40 to 49
-pub bits-of-five : (r : ℕ) → unpacked 10 5 r ≡ (r % 2 ^ 10 ∷ r / 2 ^ 10 % 2 ^ 10 ∷ r / 2 ^ 20 % 2 ^ 10 ∷ r / 2 ^ 30 % 2 ^ 10 ∷ r / 2 ^ 40 % 2 ^ 10 ∷ [])
-unfolding unpacked
-bits-of-five r = simp div-div-eq-div-mul
+-- ---- what is read back
+
+-- an answer: code in bits 0 to 9, running in 10 to 19, retry in 20 to 29, mark in 30 to 39, moved in 40 to 49
+abbrev pub answerOf : ℕ → Answer
+answerOf r = record { code = r % 2 ^ 10; running = r / 2 ^ 10 % 2 ^ 10; retry = r / 2 ^ 20 % 2 ^ 10; mark = r / 2 ^ 30 % 2 ^ 10; moved = r / 2 ^ 40 % 2 ^ 10 }
+
+-- List's: code in bits 0 to 9, count in 10 to 19
+abbrev pub listedOf : ℕ → Listed
+listedOf r = record { code = r % 2 ^ 10; count = r / 2 ^ 10 % 2 ^ 10 }

@@ -9,12 +9,11 @@ use mathlib.Core.Logic.{_≢_}
 use mathlib.Core.List.{List, [], _∷_}
 use lib.ListN.{length, drop, length-drop}
 use Rattle.model.specs.declared.Shape.{Shape}
-use Rattle.model.specs.Queue.{Queue, inside, exists, bit, member, count, remove, insert, move}
+use Rattle.model.specs.Queue.{Queue, inside, exists, bit, member, count, remove, insert, move, isCondition}
 use Rattle.model.specs.Field.{Field, Fields, put, priorities}
 use Rattle.model.specs.Field.Field.{priority}
 use Rattle.model.specs.Machine as machine
 use Rattle.model.specs.Machine.{State, model}
-use Rattle.model.specs.History.{isCondition}
 use Rattle.model.specs.Valid.{room, Placed}
 use Rattle.model.proofs.Tests.{holds, fails, SameCase, same-case, EqCase, eqb-case, PutCase, put-case, put-away, bit-small, denied}
 use Rattle.model.proofs.Lists.{SameOff, falling-remove, remove-absent, absent-count, count-remove-same, member-bit}

@@ -13,7 +13,7 @@ use Rattle.model.specs.declared.Answer.{Answer}
 use Rattle.model.specs.Queue.{Note, outside, inside}
 use Rattle.model.specs.Queue.Queue.{ready}
 use Rattle.model.specs.Field.{Fields, priorities}
-use Rattle.model.specs.Rules.{Effect, unless, choose, decide}
+use Rattle.model.specs.Rules.{Effect, when, choose, decide}
 use Rattle.model.specs.Rules.Effect.{refuse, accept}
 use Rattle.model.specs.Machine.{State, model, moves, arrivals, finish, step, refusal}
 use Rattle.model.proofs.Tests.{eqb-yes, eqb-no, not-true, or-split}
@@ -23,13 +23,13 @@ use Rattle.area.specs.Calls.{Does, Missing, Calling, CallingTwo, changed}
 
 -- ---- tests
 
-pub unless-yes : {b : Bool} (k : ℕ) (e : Effect) → b ≡ true → unless b k e ≡ refuse k
-unfolding unless
-unless-yes k e h = rw h
+pub when-yes : {b : Bool} (k : ℕ) (e : Effect) → b ≡ true → when b k e ≡ refuse k
+unfolding when
+when-yes k e h = rw h
 
-pub unless-no : {b : Bool} (k : ℕ) (e : Effect) → b ≡ false → unless b k e ≡ e
-unfolding unless
-unless-no k e h = rw h
+pub when-no : {b : Bool} (k : ℕ) (e : Effect) → b ≡ false → when b k e ≡ e
+unfolding when
+when-no k e h = rw h
 
 pub choose-yes : {b : Bool} (d e : Effect) → b ≡ true → choose b d e ≡ d
 unfolding choose
@@ -47,13 +47,13 @@ pub record Tested (k : ℕ) (tests : Effect → Effect) : Type 0 where
   pub passed : k ≡ 0 → (e : Effect) → tests e ≡ e
 
 -- one test, and one more before others
-one-test : (b : Bool) (c : ℕ) {k : ℕ} → c ≢ 0 → k ≡ cond b c 0 → Tested k (unless b c)
-unfolding unless
+one-test : (b : Bool) (c : ℕ) {k : ℕ} → c ≢ 0 → k ≡ cond b c 0 → Tested k (when b c)
+unfolding when
 one-test true c z q = record { refused = λ h e. ap refuse (sym q); passed = λ h e. absurd (z (sym q ∙ h)) }
 one-test false c z q = record { refused = λ h e. absurd (h q); passed = λ h e. refl }
 
-test-before : (b : Bool) (c : ℕ) {k j : ℕ} {tests : Effect → Effect} → c ≢ 0 → k ≡ cond b c j → Tested j tests → Tested k (λ e. unless b c (tests e))
-unfolding unless
+test-before : (b : Bool) (c : ℕ) {k j : ℕ} {tests : Effect → Effect} → c ≢ 0 → k ≡ cond b c j → Tested j tests → Tested k (λ e. when b c (tests e))
+unfolding when
 test-before true c z q T = record { refused = λ h e. ap refuse (sym q); passed = λ h e. absurd (z (sym q ∙ h)) }
 test-before false c z q T = rw q record { refused = λ h e. T .refused h e; passed = λ h e. T .passed h e }
 
@@ -63,14 +63,14 @@ past true z q h = absurd (z (sym q ∙ h))
 past false z q h = (refl, sym q ∙ h)
 
 module _ {k n i : ℕ} (q : Missing n i k) where
-  pub missing-tested : Tested k (unless (outside n i) 7)
+  pub missing-tested : Tested k (when (outside n i) 7)
   missing-tested = one-test (outside n i) 7 (omega arith) (q .code)
 
   pub missing-there : k ≡ 0 → inside n i ≡ true
   missing-there z = ap not (past (outside n i) (omega arith) (q .code) z .0)
 
 module _ {k r n i : ℕ} (q : Calling r n i k) where
-  pub calling-tested : Tested k (λ e. unless (eqb r 0) 6 (unless (outside n i) 7 e))
+  pub calling-tested : Tested k (λ e. when (eqb r 0) 6 (when (outside n i) 7 e))
   calling-tested = test-before (eqb r 0) 6 (omega arith) (q .code) (one-test (outside n i) 7 (omega arith) refl)
 
   pub calling-runs : k ≡ 0 → r ≢ 0
@@ -80,7 +80,7 @@ module _ {k r n i : ℕ} (q : Calling r n i k) where
   calling-there z = missing-there {n = n} {i = i} record { code = refl } (past (eqb r 0) (omega arith) (q .code) z .1)
 
 module _ {k r n i m j : ℕ} (q : CallingTwo r n i m j k) where
-  pub two-tested : Tested k (λ e. unless (eqb r 0) 6 (unless (outside n i || outside m j) 7 e))
+  pub two-tested : Tested k (λ e. when (eqb r 0) 6 (when (outside n i || outside m j) 7 e))
   two-tested = test-before (eqb r 0) 6 (omega arith) (q .code) (one-test (outside n i || outside m j) 7 (omega arith) refl)
 
   pub two-runs : k ≡ 0 → r ≢ 0

@@ -6,13 +6,12 @@ use mathlib.Core.Logic.{_≢_}
 use mathlib.Core.Bool.{true}
 use mathlib.Core.List.{List}
 use Rattle.model.specs.declared.Shape.{Shape}
-use Rattle.model.specs.Queue.{Queue, bit, inside, exists, member}
+use Rattle.model.specs.Queue.{Queue, bit, inside, exists, member, isCondition}
 use Rattle.model.specs.Queue.Queue.{ready}
 use Rattle.model.specs.Field.{Field}
 use Rattle.model.specs.Field.Field.{running}
 use Rattle.model.specs.Machine.{State, model}
 use Rattle.model.specs.Valid.{room, Valid}
-use Rattle.model.specs.History.{isCondition}
 use Rattle.area.specs.declared.places.Place.{Place}
 use Rattle.area.specs.Layout.{at, Lies}
 use Rattle.area.specs.Layout.Part.{kept}

@@ -20,14 +20,14 @@ use Rattle.model.specs.Valid.{Valid}
 use Rattle.model.proofs.Tests.{eqb-yes, eqb-no, leb-yes, leb-no}
 use Rattle.area.specs.Holds.{Holds, Becomes, with, sent, Gives}
 use Rattle.area.specs.Calls.{Does}
-use Rattle.moves.proofs.Outcomes.{unless-yes, unless-no, refuses, accepts}
+use Rattle.moves.proofs.Outcomes.{when-yes, when-no, refuses, accepts}
 use Rattle.moves.proofs.Shared.{runner-stands}
 
 -- r is the running process
 module _ {n : Shape} {old : List ℕ} {s : State model} (H : Holds n old s) (v : Priority) {r : ℕ} (er : r ≡ s .fields running) where
   pub set-priority-nobody : {a : Answer} → r ≡ 0 → a ≡ refusal 6 → Does (SetPriority v) n old old s a
   unfolding decide
-  set-priority-nobody z = refuses H (SetPriority v) 6 (unless-yes 6 _ (eqb-yes (s .fields running) 0 (sym er ∙ z)))
+  set-priority-nobody z = refuses H (SetPriority v) 6 (when-yes 6 _ (eqb-yes (s .fields running) 0 (sym er ∙ z)))
 
   module _ (z : r ≢ 0) where
     someone : eqb (s .fields running) 0 ≡ false
@@ -35,7 +35,7 @@ module _ {n : Shape} {old : List ℕ} {s : State model} (H : Holds n old s) (v :
 
     pub set-priority-high : {a : Answer} → 7 < v .0 → a ≡ refusal 4 → Does (SetPriority v) n old old s a
     unfolding decide
-    set-priority-high h = refuses H (SetPriority v) 4 (unless-no 6 _ someone ∙ unless-yes 4 _ (leb-yes 8 (v .0) h))
+    set-priority-high h = refuses H (SetPriority v) 4 (when-no 6 _ someone ∙ when-yes 4 _ (leb-yes 8 (v .0) h))
 
     -- who runs stands in ready, and does not come into it
     pub set-priority-low : {mid new : List ℕ} {a : Answer} → Valid n s → v .0 ≤ 7 → Becomes n old mid (sent r ready (with (priority r) (v .0) s))
@@ -43,6 +43,6 @@ module _ {n : Shape} {old : List ℕ} {s : State model} (H : Holds n old s) (v :
     unfolding decide
     set-priority-low valid h =
         accepts H (SetPriority v) (put (priority r) (v .0) (s .fields)) ((r, ready) ∷ []) 0 0
-        (unless-no 6 _ someone ∙ unless-no 4 _ (leb-no 8 (v .0) (omega arith))
+        (when-no 6 _ someone ∙ when-no 4 _ (leb-no 8 (v .0) (omega arith))
         ∙ ap {A = ℕ} (λ x. accept (put (priority x) (v .0) (s .fields)) ((x, ready) ∷ []) 0) (sym er))
         (rw (runner-stands er valid z))

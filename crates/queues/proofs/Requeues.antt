@@ -10,11 +10,10 @@ use Rattle.model.specs.declared.Shape.{Shape}
 use Rattle.model.specs.declared.Process.{Process}
 use Rattle.model.specs.declared.Answer.{Answer}
 use Rattle.model.specs.declared.Call.the-variants.{Requeue}
-use Rattle.model.specs.Queue.{Queue, outside, exists, bit, member}
+use Rattle.model.specs.Queue.{Queue, outside, exists, bit, member, isCondition}
 use Rattle.model.specs.Queue.Queue.{ready, park}
 use Rattle.model.specs.Field.{priorities}
 use Rattle.model.specs.Rules.{readyOrPark, decide}
-use Rattle.model.specs.History.{isCondition}
 use Rattle.model.specs.Machine.{State, model, moves, arrivals, finish, refusal}
 use Rattle.model.proofs.Tests.{holds, fails, EqCase, eqb-case, eqb-yes, eqb-no, leb-yes, leb-no, bounds-inside}
 use Rattle.model.proofs.Loops.{elsewhere}
@@ -24,7 +23,7 @@ use Rattle.area.specs.Holds.{Holds, Becomes, Moves, Gives}
 use Rattle.area.specs.Calls.{Does, changed}
 use Rattle.moves.proofs.Numbers.{is-outside, is-inside, not-outside}
 use Rattle.moves.proofs.Shared.{trying}
-use Rattle.moves.proofs.Outcomes.{unless-yes, unless-no, refuses, accepts}
+use Rattle.moves.proofs.Outcomes.{when-yes, when-no, refuses, accepts}
 
 -- ---- ready and the parks
 
@@ -91,16 +90,16 @@ module _ (n : Shape) (a b p : ℕ) where
 module _ {n : Shape} {old : List ℕ} {s : State model} (H : Holds n old s) (a b : ℕ) (p : Process) {r : Answer} where
   pub requeue-none : Wrong n a b (p .0) → r ≡ refusal 7 → Does (Requeue a b p) n old old s r
   unfolding decide
-  requeue-none w e = refuses H (Requeue a b p) 7 (unless-yes 7 _ (wrong n a b (p .0) w)) e
+  requeue-none w e = refuses H (Requeue a b p) 7 (when-yes 7 _ (wrong n a b (p .0) w)) e
 
   module _ (x : a ≤ n .parks) (y : b ≤ n .parks) (z : p .0 ≢ 0) (w : p .0 ≤ n .processes) where
     pub requeue-absent : {new : List ℕ} → new ≡ old → member (p .0) (s .queues (readyOrPark a)) ≡ false → r ≡ refusal 10 → Does (Requeue a b p) n old new s r
     unfolding decide
-    requeue-absent same m e = rw same (refuses H (Requeue a b p) 10 (unless-no 7 _ (right n a b (p .0) x y z w) ∙ unless-yes 10 _ (ap not m)) e)
+    requeue-absent same m e = rw same (refuses H (Requeue a b p) 10 (when-no 7 _ (right n a b (p .0) x y z w) ∙ when-yes 10 _ (ap not m)) e)
 
     pub requeue-moves : {came : ℕ} {mid new : List ℕ} → member (p .0) (s .queues (readyOrPark a)) ≡ true → came ≡ arrivals (s .queues ready) ((p .0, readyOrPark b) ∷ [])
         → Becomes n old mid (changed (s .fields) ((p .0, readyOrPark b) ∷ []) s)
         → Gives n mid new r (finish model (s .fields) (moves model (priorities (s .fields)) (s .queues) ((p .0, readyOrPark b) ∷ [])) 0 came) → Does (Requeue a b p) n old new s r
     unfolding decide
     requeue-moves {came} m e b′ g =
-        accepts H (Requeue a b p) (s .fields) ((p .0, readyOrPark b) ∷ []) 0 came (unless-no 7 _ (right n a b (p .0) x y z w) ∙ unless-no 10 _ (ap not m)) e b′ g
+        accepts H (Requeue a b p) (s .fields) ((p .0, readyOrPark b) ∷ []) 0 came (when-no 7 _ (right n a b (p .0) x y z w) ∙ when-no 10 _ (ap not m)) e b′ g

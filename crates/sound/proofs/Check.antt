@@ -13,11 +13,10 @@ use Rattle.model.proofs.Lists.{absent-count}
 use Rattle.area.specs.Reading.{shapeOf}
 use Rattle.area.specs.Rings.{records}
 use Rattle.area.specs.Sound.{Sound}
-use Rattle.area.proofs.States.{Words}
 use Rattle.heads.specs.First.{Decides, Counted, Runs}
 use Rattle.members.specs.Walk.{Met, Told}
 use Rattle.members.proofs.Marks.{clear, table-clear}
-use Rattle.members.proofs.Chains.{Member, all-member}
+use Rattle.members.proofs.Chains.{Words, Member, all-member}
 use Rattle.sound.specs.Passed.{then}
 use Rattle.sound.proofs.Queues.{kindOf, holderWord, visits, queuesOf, visits-append}
 use Rattle.sound.proofs.Lists.{every, every-in, in-every, in-all, all-in, full-length, length-full}

@@ -7,12 +7,11 @@ use mathlib.Core.List.{List, [], _∷_}
 use lib.Dec.{eqb}
 use lib.ListN.{getD}
 use Rattle.model.specs.declared.Shape.{Shape}
-use Rattle.model.specs.Queue.{Queue, inside, bit, exists, member, first}
+use Rattle.model.specs.Queue.{Queue, inside, bit, exists, member, first, isCondition}
 use Rattle.model.specs.Queue.Queue.{ready, park, lock, condition}
 use Rattle.model.specs.Field.{priorities}
 use Rattle.model.specs.Field.Field.{priority, holder, wakeup}
 use Rattle.model.specs.Machine as machine
-use Rattle.model.specs.History.{isCondition}
 use Rattle.model.proofs.Tests.{eqb-yes, eqb-no, inside-bounds}
 use Rattle.model.proofs.Lists.{member-here}
 use Rattle.model.proofs.Places.{stands-at, waiting-is}
@@ -27,11 +26,11 @@ use Rattle.area.specs.Rings.{records}
 use Rattle.area.specs.Sound.{Sound}
 use Rattle.area.proofs.Whole.{Counts, counts-in}
 use Rattle.area.proofs.Rings.{last-member, ring-ext, member-inside}
-use Rattle.area.proofs.States.{Words, chain-read}
+use Rattle.area.proofs.States.{chain-read}
 use Rattle.heads.specs.First.{Counted, Runs}
 use Rattle.heads.proofs.Tests.{Headed}
 use Rattle.members.proofs.Tests.{Fits}
-use Rattle.members.proofs.Chains.{Member, member-all}
+use Rattle.members.proofs.Chains.{Words, Member, member-all}
 use Rattle.sound.proofs.Queues.{kindOf, tailWord, holderWord}
 use Rattle.sound.proofs.Lists.{hits, every, every-once}
 use Rattle.sound.proofs.Visits.{reading, total, Visited, link-word, flags-word, timer-word, next-part, priority-part, total-hits}

@@ -19,10 +19,10 @@ use Rattle.area.specs.Layout.Slot.{Tail, Holder}
 use Rattle.area.specs.Reading.{shapeOf}
 use Rattle.area.specs.Rings.{records}
 use Rattle.area.proofs.Records.{part-lent}
-use Rattle.area.proofs.States.{Words}
 use Rattle.heads.specs.First.{Decides, Counted, Runs}
 use Rattle.heads.specs.Heads.{heading, headAt, holderIn}
 use Rattle.members.specs.Walk.{ringed, Met, Told}
+use Rattle.members.proofs.Chains.{Words}
 use Rattle.members.proofs.Walks.{told-none, told-some}
 use Rattle.sound.specs.Passed.{queued, then, passed}
 

@@ -21,10 +21,10 @@ use Rattle.area.specs.Layout.Slot.{Link, Flags, Timer}
 use Rattle.area.specs.Reading.{shapeOf, partsOf, queueOf}
 use Rattle.area.specs.Rings.{records}
 use Rattle.area.proofs.Rings.{Once, ring-ext, In}
-use Rattle.area.proofs.States.{Words, read-ring}
+use Rattle.area.proofs.States.{read-ring}
 use Rattle.heads.specs.Heads.{heading}
 use Rattle.heads.proofs.Tests.{Headed, heading-is, is-heading}
-use Rattle.members.proofs.Chains.{Member, Ringed, ring-read, ring-full, all-member, onto, count-onto}
+use Rattle.members.proofs.Chains.{Words, Member, Ringed, ring-read, ring-full, all-member, onto, count-onto}
 use Rattle.sound.specs.Passed.{then}
 use Rattle.sound.proofs.Queues.{kindOf, tailWord, holderWord, visit, visits}
 use Rattle.sound.proofs.Lists.{hits}

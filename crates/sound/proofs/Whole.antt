@@ -9,13 +9,12 @@ use mathlib.Core.List.{List, [], _∷_}
 use lib.Dec.{eqb}
 use lib.ListN.{getD}
 use Rattle.model.specs.declared.Shape.{Shape}
-use Rattle.model.specs.Queue.{Queue, inside, bit, same, exists, member, count, first, All, Falling}
+use Rattle.model.specs.Queue.{Queue, inside, bit, same, exists, member, count, first, All, Falling, isCondition}
 use Rattle.model.specs.Queue.Queue.{ready, park, lock, condition}
 use Rattle.model.specs.Field.{Field, some, priorities}
 use Rattle.model.specs.Field.Field.{clock, running, priority, timer, failed, holder, wakeup}
 use Rattle.model.specs.Machine as machine
 use Rattle.model.specs.Rules.{counted}
-use Rattle.model.specs.History.{isCondition}
 use Rattle.model.specs.Valid.{room}
 use Rattle.model.proofs.Tests.{Case, holds, fails, stops, same-case, eqb-yes, eqb-no, leb-no, inside-bounds}
 use Rattle.model.proofs.Lists.{member-here, member-there}
@@ -31,11 +30,10 @@ use Rattle.area.specs.Reading.{shapeOf, partsOf, stateOf}
 use Rattle.area.specs.Rings.{records}
 use Rattle.area.specs.Sound.{Sound}
 use Rattle.area.proofs.Rings.{last-member}
-use Rattle.area.proofs.States.{Words}
 use Rattle.heads.specs.First.{Counted, Runs}
 use Rattle.heads.proofs.Tests.{Headed}
 use Rattle.members.proofs.Tests.{Fits}
-use Rattle.members.proofs.Chains.{Member, all-member, member-all}
+use Rattle.members.proofs.Chains.{Words, Member, all-member, member-all}
 use Rattle.sound.proofs.Queues.{kindOf, tailWord, holderWord}
 use Rattle.sound.proofs.Lists.{every, every-in, in-every}
 use Rattle.sound.proofs.Visits.{reading, total, Visited, link-word, flags-word, timer-word, tail-part, next-part, priority-part, total-one, total-two, placeIn, place-in}

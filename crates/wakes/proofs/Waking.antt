@@ -15,7 +15,7 @@ use Rattle.model.specs.Queue.{outside, inside, member, first, firstOnly, toRead
 use Rattle.model.specs.Queue.Queue.{ready, condition}
 use Rattle.model.specs.Field.{Fields, put, priorities}
 use Rattle.model.specs.Field.Field.{running, timer, wakeup}
-use Rattle.model.specs.Rules.{unless, calm, wake, nakedly, decide}
+use Rattle.model.specs.Rules.{when, calm, wake, nakedly, decide}
 use Rattle.model.specs.Rules.Effect.{accept}
 use Rattle.model.specs.Machine.{State, model, moves, arrivals, finish, refusal}
 use Rattle.model.proofs.Tests.{eqb-no}
@@ -28,13 +28,13 @@ use Rattle.area.proofs.Puts.{becomes-none, becomes-then}
 use Rattle.area.proofs.Whole.{counts-in}
 use Rattle.area.specs.Calls.{Does, Missing, Calling, changed}
 use Rattle.moves.proofs.Numbers.{not-outside, first-only, no-first, member-some, nobody-first}
-use Rattle.moves.proofs.Outcomes.{unless-no, Tested, missing-tested, calling-tested, refuses-by, accepts}
+use Rattle.moves.proofs.Outcomes.{when-no, Tested, missing-tested, calling-tested, refuses-by, accepts}
 
 -- ---- the rules, with r the running process and k the code of the tests on the numbers
 
 module _ {n : Shape} {old : List ℕ} {s : State model} (H : Holds n old s) (c : ℕ) where
   module _ {r k : ℕ} (runs : r ≡ s .fields running) (ek : Calling r (n .conditions) c k) where
-    tested : Tested k (λ e. unless (eqb (s .fields running) 0) 6 (unless (outside (n .conditions) c) 7 e))
+    tested : Tested k (λ e. when (eqb (s .fields running) 0) 6 (when (outside (n .conditions) c) 7 e))
     tested = rw (← runs) (calling-tested ek)
 
     pub notify-refused : {a : Answer} → k ≢ 0 → a ≡ refusal k → Does (Notify c) n old old s a
@@ -51,7 +51,7 @@ module _ {n : Shape} {old : List ℕ} {s : State model} (H : Holds n old s) (c :
 
   notify-0 : s .fields running ≢ 0 → inside (n .conditions) c ≡ true → decide n (s .fields) (s .queues) (Notify c) ≡ wake (firstOnly (s .queues (condition c))) (s .fields)
   unfolding decide
-  notify-0 z i = unless-no 6 _ (eqb-no (s .fields running) 0 z) ∙ unless-no 7 _ (not-outside (n .conditions) c i)
+  notify-0 z i = when-no 6 _ (eqb-no (s .fields running) 0 z) ∙ when-no 7 _ (not-outside (n .conditions) c i)
 
   pub naked-refused : {k : ℕ} {a : Answer} → Missing (n .conditions) c k → k ≢ 0 → a ≡ refusal k → Does (Naked c) n old old s a
   unfolding decide
@@ -59,7 +59,7 @@ module _ {n : Shape} {old : List ℕ} {s : State model} (H : Holds n old s) (c :
 
   naked-0 : inside (n .conditions) c ≡ true → decide n (s .fields) (s .queues) (Naked c) ≡ nakedly c (s .queues (condition c)) (s .fields)
   unfolding decide
-  naked-0 i = unless-no 7 _ (not-outside (n .conditions) c i)
+  naked-0 i = when-no 7 _ (not-outside (n .conditions) c i)
 
 nakedly-none : (c : ℕ) (xs : List ℕ) (s : Fields) → xs ≡ [] → nakedly c xs s ≡ accept (put (wakeup c) 1 s) [] 1
 unfolding nakedly

@@ -1,6 +1,5 @@
 -- `monitor::perform` meets its contract: an unsound area is refused, and a sound one holds the state that it says, on which the call does its
 -- rule. Assumes nothing.
-use native.Mathlib.Omega.{arith}
 use borrow.Author.Needs.{needs}
 use Rattle.monitor.proofs.Performs.{performs-not, checked, counts-there, stands-at, performs-at}
 use Rattle.monitor.proofs.perform.Statement.{statement}
@@ -23,22 +22,20 @@ shape-of-requires c κs = counts-there (checked (c .before .before .sound .resul
 
 act-requires : tie.Need-act-requires
 act-requires c κs =
-    let slice-known = c .before .before .before .before .before .before .slice-known in
     let sound = c .before .before .before .before .sound in
     let if1 = c .before .before .before .if1 in
-    stands-at (c .before .shape-of .result) (c .before .shape-of .ensures) (λ i. omega (arith, slice-known .given i)) (checked (sound .result) (sound .ensures) (if1 .left))
+    stands-at (c .before .shape-of .result) (c .before .shape-of .ensures) (checked (sound .result) (sound .ensures) (if1 .left))
 
 same-length-2 : tie.Need-same-length-2
 same-length-2 c = search needs
 
 returns-2 : tie.Need-returns-2
 returns-2 c =
-    let slice-known = c .before .before .before .before .before .before .before .before .before .slice-known in
     let sound = c .before .before .before .before .before .before .before .sound in
     let if1 = c .before .before .before .before .before .before .if1 in
     let shape-of = c .before .before .before .before .shape-of in
     let act = c .before .before .act in
-    performs-at (shape-of .result) (shape-of .ensures) (λ i. omega (arith, slice-known .given i)) (checked (sound .result) (sound .ensures) (if1 .left)) (act .ensures)
+    performs-at (shape-of .result) (shape-of .ensures) (checked (sound .result) (sound .ensures) (if1 .left)) (act .ensures)
 
 pub perform-spec : {M : Type 1} → statement M
 perform-spec =

@@ -7,8 +7,8 @@ use mathlib.Core.Path.{refl}
 use lib.ListN.{length}
 use borrow.Author.Needs.{needs}
 use Rattle.area.specs.Layout.{size}
-use Rattle.area.proofs.States.{Words}
 use Rattle.heads.specs.First.{Counted}
+use Rattle.members.proofs.Chains.{Words}
 use Rattle.members.proofs.Marks.{clear}
 use Rattle.sound.proofs.Check.{decides-yes, decides-no, uncounted, unready, broken-1, broken-2, finished, refuses}
 use Rattle.sound.proofs.Queues.{counted-long, lent-first, lent-runs, lent-within, lent-visits}

@@ -1,0 +1,84 @@
+-- The demands hold: an export's number reads back as an answer that keeps the promise, and what follows from the promise follows for the
+-- export. Assumes nothing.
+use Prim.Native.Nat.{ℕ}
+use native.Mathlib.Omega.{arith}
+use native.Mathlib.Decide.{ℕ-discrete}
+use mathlib.Core.Path.{_≡_, sym, ap, _∙_, subst}
+use mathlib.Core.List.{List, map}
+use Rattle.model.specs.declared.Shape.{Shape}
+use Rattle.model.specs.declared.Call.{Call}
+use Rattle.model.specs.declared.Answer.{Answer}
+use Rattle.area.specs.Reading.{Agree}
+use Rattle.area.specs.Sound.{Sound}
+use Rattle.area.proofs.Agreeing.{agree-back, sound-same}
+use Rattle.start.specs.Start.{Starts}
+use Rattle.queues.specs.declared.listing.Listed.{Listed}
+use Rattle.monitor.specs.Calls.{Performs, ListsOn}
+use Rattle.monitor.specs.Wire.{packed, answerOf, listedOf}
+use Rattle.monitor.specs.History.{Run}
+use Rattle.monitor.specs.History.Run.{none, then}
+use Rattle.monitor.proofs.History.{run-ends}
+use Rattle.monitor.proofs.Promises.{performs-spares, starts-spares, lists-spares, performs-keeps, performs-alike, lists-alike, starts-alike, read-answer, read-listed}
+use Rattle.kernel.specs.Exports.{Conveys, Crosses, Begins, Writes, Judges}
+use Rattle.kernel.specs.Demands.{Demand1, Demand2, Demand3, Beyond}
+
+-- ---- what is read back keeps the promise
+
+crossed : {c : Call} {old new : List ℕ} {r : ℕ} → Crosses c old new r → Performs c old new (answerOf r)
+crossed {c} {old} {new} C = subst (λ (a : Answer). Performs c old new a) (read-answer (C .carries)) (C .keeps)
+
+begun : {n : Shape} {bytes old new : List ℕ} {r : ℕ} → Begins n bytes old new r → Starts n bytes old new (answerOf r)
+begun {n} {bytes} {old} {new} B = subst (λ (a : Answer). Starts n bytes old new a) (read-answer (B .carries)) (B .keeps)
+
+listed : {kind number : ℕ} {ws old new : List ℕ} {r : ℕ} → Writes kind number ws old new r → ListsOn kind number ws old new (listedOf r)
+listed {kind} {number} {ws} {old} {new} W = subst (λ (l : Listed). ListsOn kind number ws old new l) (read-listed (W .carries)) (W .keeps)
+
+-- numbers of the same answer are the same
+same-number : {A : Type 0} {w : ℕ} {fieldsOf : A → List ℕ} {P Q : A → Type 0} {r s : ℕ} (C : Conveys w fieldsOf P r) (D : Conveys w fieldsOf Q s) → C .answer ≡ D .answer → r ≡ s
+same-number {w = w} {fieldsOf = fieldsOf} C D e = C .carries .number ∙ ap (λ a. packed w (fieldsOf a)) e ∙ sym (D .carries .number)
+
+not-sound : {ws : List ℕ} {r : ℕ} → Judges ws r → (Sound ws → ⊥) → r ≡ 0
+not-sound {r = r} J u = elim (ℕ-discrete r 1) [
+  | yes e ↦ absurd (u (J .says .0 e))
+  | no n ↦ let b = J .bit in omega arith
+]
+
+-- ---- the demands
+
+pub demand1 : Demand1
+demand1 = record {
+  unsound-call = λ C u. crossed C .unsound u;
+  unsound-list = λ W u. listed W .unsound u;
+  unsound-sound = not-sound;
+  overwrites = λ B D la lb. let s = starts-alike la lb (B .keeps) (D .keeps) in (same-number B D (s .0), λ z. s .1 (ap {A = Answer} (λ a. a .code) (read-answer (B .carries)) ∙ z));
+  refused-call = λ C. performs-spares (crossed C);
+  refused-start = λ B. starts-spares (begun B);
+  refused-list = λ W. lists-spares (listed W);
+}
+
+pub demand2 : Demand2
+demand2 = record { call = crossed; start = begun; list = listed; sound = λ J. J .says }
+
+run-crossed : {cs : List Call} {old new : List ℕ} {rs : List ℕ} → Run Crosses cs old new rs → Run Performs cs old new (map answerOf rs)
+run-crossed none = none
+run-crossed (then C R) = then (crossed C) (run-crossed R)
+
+pub demand3 : Demand3
+demand3 = record { ends = λ B z R. run-ends (begun B) z (run-crossed R) }
+
+judged-alike : {a b : List ℕ} {r s : ℕ} → Agree a b → Judges a r → Judges b s → r ≡ s
+judged-alike {a} {b} {r} {s} A J K = elim (ℕ-discrete r 1) [
+  | yes e ↦ e ∙ sym (K .says .1 (sound-same A (J .says .0 e)))
+  | no n ↦ let z : r ≡ 0 = not-one J n in z ∙ sym (not-sound K (λ S. n (J .says .1 (sound-same (agree-back A) S))))
+]
+  where
+    not-one : {ws : List ℕ} {k : ℕ} → Judges ws k → (k ≡ 1 → ⊥) → k ≡ 0
+    not-one L n = let b = L .bit in omega arith
+
+pub beyond : Beyond
+beyond = record {
+  kept = λ C. performs-keeps (C .keeps);
+  call = λ A C D. let p = performs-alike A (C .keeps) (D .keeps) in (same-number C D (p .0), p .1);
+  list = λ A C D. let p = lists-alike A (C .keeps) (D .keeps) in (same-number C D (p .0), p .1);
+  sound = judged-alike;
+}

@@ -1,0 +1,52 @@
+-- The three demands, and that the words beyond an area's size are neither read nor changed: each a statement about what the exports promise,
+-- over every area, of any length and content, and every number. They hold by `crates/kernel/proofs/Demands.antt`. Assumes nothing.
+use Prim.Native.Nat.{ℕ, _≤_}
+use mathlib.Core.Path.{_≡_}
+use mathlib.Core.Logic.{_≢_, _↔_}
+use mathlib.Core.List.{List}
+use lib.ListN.{length, take, drop}
+use Rattle.model.specs.declared.Shape.{Shape}
+use Rattle.model.specs.declared.Call.{Call}
+use Rattle.model.specs.Machine.{refusal}
+use Rattle.area.specs.Layout.{size}
+use Rattle.area.specs.Reading.{shapeOf, Agree}
+use Rattle.area.specs.Sound.{Sound}
+use Rattle.start.specs.Start.{Starts}
+use Rattle.queues.specs.Listing.{Unlisted}
+use Rattle.monitor.specs.Calls.{Performs, ListsOn, Spares}
+use Rattle.monitor.specs.Wire.{answerOf, listedOf}
+use Rattle.monitor.specs.History as history
+use Rattle.kernel.specs.Exports.{Crosses, Begins, Writes, Judges}
+
+-- 1. Every area and every number is answered, since no export requires anything. Of the answers:
+pub record Demand1 : Type 0 where
+  -- an unsound area gets refusal 1 from each of the nine calls and from List, and Sound says no
+  pub unsound-call : {c : Call} {old new : List ℕ} {r : ℕ} → Crosses c old new r → (Sound old → ⊥) → (answerOf r ≡ refusal 1) × (new ≡ old)
+  pub unsound-list : {kind number : ℕ} {ws old new : List ℕ} {r : ℕ} → Writes kind number ws old new r → (Sound ws → ⊥) → Unlisted old new (listedOf r) 1
+  pub unsound-sound : {ws : List ℕ} {r : ℕ} → Judges ws r → (Sound ws → ⊥) → r ≡ 0
+  -- Start overwrites it: what an area long enough held makes no difference
+  pub overwrites : {n : Shape} {bytes a b a′ b′ : List ℕ} {r s : ℕ} → Begins n bytes a a′ r → Begins n bytes b b′ s → size n ≤ length a → size n ≤ length b
+      → (r ≡ s) × (answerOf r .code ≡ 0 → take (size n) a′ ≡ take (size n) b′)
+  -- a refusal, whatever its code, answers zeros beside it and changes no word of the area or of the buffer
+  pub refused-call : {c : Call} {old new : List ℕ} {r : ℕ} → Crosses c old new r → Spares (answerOf r) old new
+  pub refused-start : {n : Shape} {bytes old new : List ℕ} {r : ℕ} → Begins n bytes old new r → Spares (answerOf r) old new
+  pub refused-list : {kind number : ℕ} {ws old new : List ℕ} {r : ℕ} → Writes kind number ws old new r → listedOf r .code ≢ 0 → Unlisted old new (listedOf r) (listedOf r .code)
+
+-- 2. What is read back out of an export's number is the answer that the rules give, with every word as they give it
+pub record Demand2 : Type 0 where
+  pub call : {c : Call} {old new : List ℕ} {r : ℕ} → Crosses c old new r → Performs c old new (answerOf r)
+  pub start : {n : Shape} {bytes old new : List ℕ} {r : ℕ} → Begins n bytes old new r → Starts n bytes old new (answerOf r)
+  pub list : {kind number : ℕ} {ws old new : List ℕ} {r : ℕ} → Writes kind number ws old new r → ListsOn kind number ws old new (listedOf r)
+  pub sound : {ws : List ℕ} {r : ℕ} → Judges ws r → (r ≡ 1) ↔ Sound ws
+
+-- 3. Over every history: from an accepted Start, over every list of the nine calls made from C
+abbrev pub Demand3 : Type 0
+Demand3 = history.Demand3 answerOf Begins Crosses
+
+-- The words beyond an area's size are never changed and never read: areas that agree below it are answered alike, and agree afterwards
+pub record Beyond : Type 0 where
+  pub kept : {c : Call} {old new : List ℕ} {r : ℕ} → Crosses c old new r → drop (size (shapeOf old)) new ≡ drop (size (shapeOf old)) old
+  pub call : {c : Call} {a b a′ b′ : List ℕ} {r s : ℕ} → Agree a b → Crosses c a a′ r → Crosses c b b′ s
+      → (r ≡ s) × (take (size (shapeOf a)) a′ ≡ take (size (shapeOf a)) b′)
+  pub list : {kind number : ℕ} {a b old new other : List ℕ} {r s : ℕ} → Agree a b → Writes kind number a old new r → Writes kind number b old other s → (r ≡ s) × (new ≡ other)
+  pub sound : {a b : List ℕ} {r s : ℕ} → Agree a b → Judges a r → Judges b s → r ≡ s

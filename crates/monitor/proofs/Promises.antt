@@ -1,0 +1,279 @@
+-- What follows from the promises of a call, of Start and of List alone: a refusal spares the words, the words beyond the size are neither read
+-- nor changed, and each field of an answer has ten bits, so that the answer comes back out of its number. Assumes nothing.
+use Prim.Native.Nat.{ℕ, _^_, _≤_, _<_}
+use native.Mathlib.Nat.{div-div-eq-div-mul}
+use native.Mathlib.Decide.{ℕ-discrete, decLt}
+use native.Mathlib.Omega.{arith}
+use mathlib.Core.Path.{_≡_, refl, sym, ap, _∙_, subst}
+use mathlib.Core.Logic.{_≢_, Dec·and}
+use mathlib.Core.Bool.{Bool, true, false, not, cond}
+use mathlib.Core.List.{List, [], _∷_, map}
+use lib.Dec.{eqb, ltb}
+use lib.ListN.{length, getD, take, drop}
+use borrow.Author.Tests.{le-ltb, ne-eqb}
+use Rattle.model.specs.declared.Shape.{Shape}
+use Rattle.model.specs.declared.Call.{Call}
+use Rattle.model.specs.declared.Answer.{Answer}
+use Rattle.model.specs.Rules.{counted, anyAbove, startCode}
+use Rattle.model.specs.Machine.{State, model, step, start, refusal}
+use Rattle.model.proofs.Tests.{EqCase, holds, fails, eqb-case}
+use Rattle.model.proofs.Rules.{refused-stays}
+use Rattle.model.proofs.Kept.{Small, step-small, start-small, start-valid}
+use Rattle.model.proofs.Places.{queue-length}
+use Rattle.area.specs.Layout.{word, slots, size}
+use Rattle.area.specs.State.{laid, write}
+use Rattle.area.specs.Reading.{shapeOf, stateOf, Agree}
+use Rattle.area.specs.Sound.{Sound}
+use Rattle.area.proofs.Whole.{counts-in, write-below, write-beyond}
+use Rattle.area.proofs.States.{sound-write}
+use Rattle.area.proofs.Agreeing.{shape-same, state-same, agree-back, sound-same}
+use Rattle.start.specs.Start.{startOn, Starts}
+use Rattle.queues.specs.declared.listing.Listed.{Listed}
+use Rattle.queues.specs.Listing.{queueBy, isQueue, Unlisted, Written, Lists}
+use Rattle.monitor.specs.Calls.{Performs, ListsOn, Spares}
+use Rattle.monitor.specs.Wire.{unpacked, Carries, fields, listFields, answerOf, listedOf}
+use Rattle.monitor.proofs.Wire.{Fit}
+use Rattle.monitor.proofs.History.{start-accepted}
+
+-- ---- by cases on soundness, where what is to be shown can be decided
+
+settle : {S X : Type 0} → Dec X → (S → X) → ((S → ⊥) → X) → X
+settle d f g = elim d [
+  | yes x ↦ x
+  | no n ↦ g (λ s. n (f s))
+]
+
+lists? : (xs ys : List ℕ) → Dec (xs ≡ ys)
+lists? [] [] = yes refl
+lists? [] (y ∷ ys) = no (λ e. let l : _≡_ {A = ℕ} 0 (length (y ∷ ys)) = ap length e in omega arith)
+lists? (x ∷ xs) [] = no (λ e. let l : length (x ∷ xs) ≡ 0 = ap length e in omega arith)
+lists? (x ∷ xs) (y ∷ ys) = elim (Dec·and (ℕ-discrete x y) (lists? xs ys)) [
+  | yes e ↦ yes (λ i. e .0 i ∷ e .1 i)
+  | no n ↦ no (λ e. n (ap (λ (l : List ℕ). getD l 0 0) e, ap (λ (l : List ℕ). drop 1 l) e))
+]
+
+-- an answer is its fields
+answer-is : {a b : Answer} → fields a ≡ fields b → a ≡ b
+answer-is e = ap (λ (l : List ℕ). record { code = getD l 0 0; running = getD l 1 0; retry = getD l 2 0; mark = getD l 3 0; moved = getD l 4 0 }) e
+
+listed-is : {a b : Listed} → listFields a ≡ listFields b → a ≡ b
+listed-is e = ap (λ (l : List ℕ). record { code = getD l 0 0; count = getD l 1 0 }) e
+
+answers? : (a b : Answer) → Dec (a ≡ b)
+answers? a b = elim (lists? (fields a) (fields b)) [
+  | yes e ↦ yes (answer-is e)
+  | no n ↦ no (λ e. n (ap fields e))
+]
+
+listed? : (a b : Listed) → Dec (a ≡ b)
+listed? a b = elim (lists? (listFields a) (listFields b)) [
+  | yes e ↦ yes (listed-is e)
+  | no n ↦ no (λ e. n (ap listFields e))
+]
+
+-- ---- a refusal spares the words
+
+pub performs-spares : {c : Call} {old new : List ℕ} {a : Answer} → Performs c old new a → Spares a old new
+performs-spares {c} {old} {new} {a} P h = settle (Dec·and (answers? a (refusal (a .code))) (lists? new old)) on-sound on-unsound
+  where
+    codes : {b : Answer} → a ≡ b → refusal (b .code) ≡ refusal (a .code)
+    codes e = ap {A = Answer} (λ b. refusal (b .code)) (sym e)
+
+    on-sound : Sound old → (a ≡ refusal (a .code)) × (new ≡ old)
+    on-sound S =
+        let p = P .sound S in
+        let k = refused-stays model (shapeOf old) (stateOf old) c (λ z. h (ap {A = Answer} (λ b. b .code) (p .0) ∙ z)) in (
+          p .0 ∙ ap {A = State model × Answer} (λ r. r .1) k ∙ codes (p .0),
+          p .1 ∙ ap {A = State model × Answer} (λ r. write (shapeOf old) (r .0) old) k ∙ sound-write old S,
+        )
+
+    on-unsound : (Sound old → ⊥) → (a ≡ refusal (a .code)) × (new ≡ old)
+    on-unsound u = let p = P .unsound u in (p .0 ∙ codes (p .0), p .1)
+
+pub starts-spares : {n : Shape} {bytes old new : List ℕ} {a : Answer} → Starts n bytes old new a → Spares a old new
+starts-spares {n} {bytes} {old} {new} {a} S h = go (eqb-case (startOn n bytes (length old)) 0)
+  where
+    go : EqCase (startOn n bytes (length old)) 0 → (a ≡ refusal (a .code)) × (new ≡ old)
+    go (holds d e) = absurd (h (ap {A = Answer} (λ b. b .code) (S .accepted d .0)))
+    go (fails d e) = let p = S .refused d in (p .0 ∙ ap {A = Answer} (λ b. refusal (b .code)) (sym (p .0)), p .1)
+
+-- ---- List, by its cases
+
+-- what List told of a sound area: no such queue, a buffer too short, or the whole queue
+pub data Told (n : Shape) (s : State model) (kind number : ℕ) (old new : List ℕ) (l : Listed) : Type 0 where
+  refused : (k : ℕ) → k < 8 → Unlisted old new l k → Told n s kind number old new l
+  whole : Written old new l (s .queues (queueBy kind number)) → Told n s kind number old new l
+
+unlisted-one : {old new other : List ℕ} {l m : Listed} {k : ℕ} → Unlisted old new l k → Unlisted old other m k → (l ≡ m) × (new ≡ other)
+unlisted-one u v = (λ i. record { code = (u .code ∙ sym (v .code)) i; count = (u .count ∙ sym (v .count)) i }, u .buffer ∙ sym (v .buffer))
+
+module _ {n : Shape} {s : State model} {kind number : ℕ} {old : List ℕ} where
+  pub lists-told : {new : List ℕ} {l : Listed} → Lists kind number n s old new l → Told n s kind number old new l
+  lists-told {new} {l} L = go (isQueue n kind number) refl (decLt (length old) (length (s .queues (queueBy kind number))))
+    where
+      go : (b : Bool) → isQueue n kind number ≡ b → Dec (length old < length (s .queues (queueBy kind number))) → Told n s kind number old new l
+      go false e d = refused 7 (omega arith) (L .missing e)
+      go true e (yes h) = refused 5 (omega arith) (L .short e h)
+      go true e (no h) = whole (L .whole e (omega arith))
+
+  -- it tells one thing
+  lists-one : {new other : List ℕ} {l m : Listed} → Lists kind number n s old new l → Lists kind number n s old other m → (l ≡ m) × (new ≡ other)
+  lists-one {new} {other} {l} {m} L M = go (isQueue n kind number) refl (decLt (length old) (length (s .queues (queueBy kind number))))
+    where
+      go : (b : Bool) → isQueue n kind number ≡ b → Dec (length old < length (s .queues (queueBy kind number))) → (l ≡ m) × (new ≡ other)
+      go false e d = unlisted-one (L .missing e) (M .missing e)
+      go true e (yes h) = unlisted-one (L .short e h) (M .short e h)
+      go true e (no h) =
+          let u = L .whole e (omega arith) in
+          let v = M .whole e (omega arith) in
+          (λ i. record { code = (u .code ∙ sym (v .code)) i; count = (u .count ∙ sym (v .count)) i }, u .buffer ∙ sym (v .buffer))
+
+pub lists-spares : {kind number : ℕ} {ws old new : List ℕ} {l : Listed} → ListsOn kind number ws old new l → l .code ≢ 0 → Unlisted old new l (l .code)
+lists-spares {kind} {number} {ws} {old} {new} {l} L h =
+    let r = settle (Dec·and (ℕ-discrete (l .count) 0) (lists? new old)) (λ S. go (lists-told (L .sound S))) (λ u. let p = L .unsound u in (p .count, p .buffer)) in
+    record { code = refl; count = r .0; buffer = r .1 }
+  where
+    go : Told (shapeOf ws) (stateOf ws) kind number old new l → (l .count ≡ 0) × (new ≡ old)
+    go (refused k b p) = (p .count, p .buffer)
+    go (whole p) = absurd (h (p .code))
+
+-- ---- the words beyond the size
+
+-- they stay
+pub performs-keeps : {c : Call} {old new : List ℕ} {a : Answer} → Performs c old new a → drop (size (shapeOf old)) new ≡ drop (size (shapeOf old)) old
+performs-keeps {c} {old} {new} P =
+    settle (lists? (drop (size (shapeOf old)) new) (drop (size (shapeOf old)) old))
+    (λ S. ap (drop (size (shapeOf old))) (P .sound S .1) ∙ write-beyond (shapeOf old) ((step model (shapeOf old) (stateOf old) c) .0) old)
+    (λ u. ap (drop (size (shapeOf old))) (P .unsound u .1))
+
+-- and are not read: areas that agree below their size are answered alike, and agree afterwards
+module _ {a b : List ℕ} (A : Agree a b) where
+  unsound-same : (Sound a → ⊥) → Sound b → ⊥
+  unsound-same u S = u (sound-same (agree-back A) S)
+
+  -- the words that a state of these counts has below the size
+  abbrev below : Shape → State model → List ℕ
+  below n s = map (word n (laid n s)) (slots n)
+
+  pub performs-alike : {c : Call} {a′ b′ : List ℕ} {x y : Answer} → Performs c a a′ x → Performs c b b′ y
+      → (x ≡ y) × (take (size (shapeOf a)) a′ ≡ take (size (shapeOf a)) b′)
+  performs-alike {c} {a′} {b′} {x} {y} P Q = settle (Dec·and (answers? x y) (lists? (take k a′) (take k b′))) on-sound on-unsound
+    where
+      k : ℕ
+      k = size (shapeOf a)
+
+      on-sound : Sound a → (x ≡ y) × (take k a′ ≡ take k b′)
+      on-sound S =
+          let p = P .sound S in
+          let q = Q .sound (sound-same A S) in (
+            p .0 ∙ (λ i. (step model (shape-same A i) (state-same A i) c) .1) ∙ sym (q .0),
+            ap (take k) (p .1) ∙ write-below (shapeOf a) ((step model (shapeOf a) (stateOf a) c) .0) a
+                ∙ (λ i. below (shape-same A i) ((step model (shape-same A i) (state-same A i) c) .0))
+                ∙ sym (ap {A = Shape} (λ n. take (size n) b′) (shape-same A) ∙ ap (take (size (shapeOf b))) (q .1) ∙ write-below (shapeOf b) ((step model (shapeOf b) (stateOf b) c) .0) b),
+          )
+
+      on-unsound : (Sound a → ⊥) → (x ≡ y) × (take k a′ ≡ take k b′)
+      on-unsound u =
+          let p = P .unsound u in
+          let q = Q .unsound (unsound-same u) in
+          (p .0 ∙ sym (q .0), ap (take k) (p .1) ∙ A .same ∙ sym (ap (take k) (q .1)))
+
+  pub lists-alike : {kind number : ℕ} {old new other : List ℕ} {x y : Listed} → ListsOn kind number a old new x → ListsOn kind number b old other y → (x ≡ y) × (new ≡ other)
+  lists-alike {kind} {number} {old} {new} {other} {x} {y} P Q =
+      settle (Dec·and (listed? x y) (lists? new other))
+      (λ S. lists-one (P .sound S) (subst (λ (n : Shape). Lists kind number n (stateOf a) old other y) (sym (shape-same A)) (subst (λ (s : State model). Lists kind number (shapeOf b) s old other y) (sym (state-same A)) (Q .sound (sound-same A S)))))
+      (λ u. unlisted-one (P .unsound u) (Q .unsound (unsound-same u)))
+
+-- on an area long enough Start's code is that of its numbers
+pub long-code : (n : Shape) (bytes : List ℕ) (words : ℕ) → size n ≤ words → startOn n bytes words ≡ startCode n bytes
+long-code n bytes words h = rw (le-ltb words (size n) h) (go (startCode n bytes))
+  where
+    go : (k : ℕ) → cond (eqb k 0) 0 k ≡ k
+    go k = elim (ℕ-discrete k 0) [
+      | yes e ↦ rw e
+      | no e ↦ rw (ne-eqb k 0 e)
+    ]
+
+-- its answer has that code
+pub starts-code : {n : Shape} {bytes old new : List ℕ} {a : Answer} → Starts n bytes old new a → a .code ≡ startOn n bytes (length old)
+starts-code {n} {bytes} {old} {new} {a} S = go (eqb-case (startOn n bytes (length old)) 0)
+  where
+    go : EqCase (startOn n bytes (length old)) 0 → a .code ≡ startOn n bytes (length old)
+    go (holds d e) = ap {A = Answer} (λ b. b .code) (S .accepted d .0) ∙ sym d
+    go (fails d e) = ap {A = Answer} (λ b. b .code) (S .refused d .0)
+
+-- and it reads none of the words that it finds
+module _ {n : Shape} {bytes a b a′ b′ : List ℕ} {x y : Answer} (la : size n ≤ length a) (lb : size n ≤ length b) (P : Starts n bytes a a′ x) (Q : Starts n bytes b b′ y) where
+  pub starts-alike : (x ≡ y) × (x .code ≡ 0 → take (size n) a′ ≡ take (size n) b′)
+  starts-alike = go (eqb-case (startCode n bytes) 0)
+    where
+      go : EqCase (startCode n bytes) 0 → (x ≡ y) × (x .code ≡ 0 → take (size n) a′ ≡ take (size n) b′)
+      go (holds d e) =
+          let p = P .accepted (long-code n bytes (length a) la ∙ d) in
+          let q = Q .accepted (long-code n bytes (length b) lb ∙ d) in
+          (p .0 ∙ sym (q .0), λ z. ap (take (size n)) (p .1) ∙ write-below n ((start model n bytes) .0) a ∙ sym (ap (take (size n)) (q .1) ∙ write-below n ((start model n bytes) .0) b))
+      go (fails d e) =
+          let p = P .refused (λ z. d (sym (long-code n bytes (length a) la) ∙ z)) in
+          let q = Q .refused (λ z. d (sym (long-code n bytes (length b) lb) ∙ z)) in
+          let same = p .0 ∙ ap refusal (long-code n bytes (length a) la ∙ sym (long-code n bytes (length b) lb)) ∙ sym (q .0) in
+          (same, λ z. absurd (d (sym (ap {A = Answer} (λ r. r .code) (p .0) ∙ long-code n bytes (length a) la) ∙ z)))
+
+-- ---- each field has ten bits
+
+fit? : (w : ℕ) (xs : List ℕ) → Dec (Fit w xs)
+fit? w [] = yes tt
+fit? w (x ∷ xs) = Dec·and (decLt x (2 ^ w)) (fit? w xs)
+
+small-fits : (n : Shape) (a : Answer) → counted n ≡ true → Small n a → Fit 10 (fields a)
+small-fits n a k s = let h = counts-in n k in (omega arith, (omega arith, (omega arith, (omega arith, (omega arith, tt)))))
+
+refusal-fits : (k : ℕ) → k < 1024 → Fit 10 (fields (refusal k))
+refusal-fits k h = (h, (omega arith, (omega arith, (omega arith, (omega arith, tt)))))
+
+pub performs-fits : {c : Call} {old new : List ℕ} {a : Answer} → Performs c old new a → Fit 10 (fields a)
+performs-fits {c} {old} {a = a} P =
+    settle (fit? 10 (fields a))
+    (λ S. rw (P .sound S .0) (small-fits (shapeOf old) _ (S .valid .placed .counts) (step-small (shapeOf old) (stateOf old) c (S .valid))))
+    (λ h. rw (P .unsound h .0) (refusal-fits 1 (omega arith)))
+
+cond-below : (b : Bool) {x y k : ℕ} → x < k → y < k → cond b x y < k
+cond-below true h l = h
+cond-below false h l = l
+
+start-below : (n : Shape) (bytes : List ℕ) (words : ℕ) → startOn n bytes words < 1024
+start-below n bytes words =
+    cond-below (eqb (startCode n bytes) 0) (cond-below (ltb words (size n)) (omega arith) (omega arith))
+    (cond-below (not (counted n)) (omega arith)
+    (cond-below (not (eqb (length bytes) (n .processes))) (omega arith) (cond-below (anyAbove 7 bytes) (omega arith) (omega arith))))
+
+pub starts-fits : {n : Shape} {bytes old new : List ℕ} {a : Answer} → Starts n bytes old new a → Fit 10 (fields a)
+starts-fits {n} {bytes} {old} {a = a} S =
+    settle (fit? 10 (fields a))
+    (λ h. let k = start-accepted n bytes (length old) h .0 in rw (S .accepted h .0) (small-fits n _ (start-valid n bytes k .placed .counts) (start-small n bytes k)))
+    (λ h. rw (S .refused h .0) (refusal-fits _ (start-below n bytes (length old))))
+
+pub lists-fits : {kind number : ℕ} {ws old new : List ℕ} {l : Listed} → ListsOn kind number ws old new l → Fit 10 (listFields l)
+lists-fits {kind} {number} {ws} {old} {new} {l} L = settle (fit? 10 (listFields l)) (λ S. go S (lists-told (L .sound S))) (λ h. let u = L .unsound h in (omega arith, (omega arith, tt)))
+  where
+    go : Sound ws → Told (shapeOf ws) (stateOf ws) kind number old new l → Fit 10 (listFields l)
+    go S (refused k b u) = (omega (arith, u .code), (omega (arith, u .count), tt))
+    go S (whole u) =
+        let c = counts-in (shapeOf ws) (S .valid .placed .counts) in
+        let m = queue-length (shapeOf ws .processes) (stateOf ws .queues) (S .valid .placed .place) (S .valid .placed .once) (queueBy kind number) in
+        (omega (arith, u .code), (omega (arith, u .count), tt))
+
+-- ---- an answer comes back out of its number
+
+bits-of-five : (r : ℕ) → unpacked 10 5 r ≡ fields (answerOf r)
+unfolding unpacked
+bits-of-five r = simp div-div-eq-div-mul
+
+bits-of-two : (r : ℕ) → unpacked 10 2 r ≡ listFields (listedOf r)
+unfolding unpacked
+bits-of-two r = refl
+
+pub read-answer : {r : ℕ} {a : Answer} → Carries 10 r (fields a) → a ≡ answerOf r
+read-answer {r} C = answer-is (sym (C .back) ∙ bits-of-five r)
+
+pub read-listed : {r : ℕ} {l : Listed} → Carries 10 r (listFields l) → l ≡ listedOf r
+read-listed {r} C = listed-is (sym (C .back) ∙ bits-of-two r)
