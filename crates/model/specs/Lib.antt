@@ -7,3 +7,4 @@ pub mod Valid
 pub mod History
 pub mod Table
 pub mod Examples
+pub mod Text

@@ -1,6 +1,6 @@
 -- 01's table: what a kernel is asked, row by row, and what must come; and that it comes from the model and the ledger, by computation.
 -- The rows that speak of words stand with the words. Assumes nothing.
-use Prim.Native.Nat.{ℕ}
+use Prim.Native.Nat.{ℕ, _%_}
 use native.Mathlib.Decide.{ℕ-discrete}
 use mathlib.Core.Path.{_≡_, refl}
 use mathlib.Core.List.{List, [], _∷_, _++_, map}
@@ -11,15 +11,16 @@ use Rattle.model.specs.declared.Call.the-variants.{Enter, Exit, Wait, No
 use Rattle.model.specs.declared.Answer.{Answer}
 use Rattle.model.specs.Field.{put}
 use Rattle.model.specs.Field.Field.{clock, timer}
-use Rattle.model.specs.Rules.{unless, choose, nakedly, decide, startCode}
+use Rattle.model.specs.Rules.{when, choose, nakedly, decide, startCode}
 use Rattle.model.specs.Machine.{Machine, State, model, start, step}
 use Rattle.model.specs.Ledger.{ledger, reading}
 use Rattle.model.specs.History.{end, replies}
 
--- what a kernel is asked: Start's code; the answers to Start and then a list of calls; the timer that a wait of t ticks stores at a clock
+-- what a kernel is asked: Start's code; the answers to Start of the sample and then to a list of calls; the timer that a wait of t ticks stores
+-- at a clock
 pub record Kernel : Type 0 where
   pub code : Shape → List ℕ → ℕ
-  pub lines : Shape → List ℕ → List Call → List Answer
+  pub lines : List Call → List Answer
   pub stores : ℕ → ℕ → ℕ
 
 -- a row: the lines of numbers that come, and those that must come
@@ -52,7 +53,7 @@ starts k p v parks = k .code record { processes = p; locks = 0; conditions = 0; 
 
 abbrev pub nineLines : Kernel → Row
 nineLines k = record {
-  come = map line (k .lines sample bytes (Enter 1 ∷ Wait 1 1 (record { 0 = 0 }) ∷ Enter 1 ∷ Notify 1 ∷ Enter 1 ∷ Exit 1 ∷ Exit 1 ∷ Enter 1 ∷ []));
+  come = map line (k .lines (Enter 1 ∷ Wait 1 1 (record { 0 = 0 }) ∷ Enter 1 ∷ Notify 1 ∷ Enter 1 ∷ Exit 1 ∷ Exit 1 ∷ Enter 1 ∷ []));
   must = (0 ∷ 2 ∷ 0 ∷ 0 ∷ 0 ∷ []) ∷ (0 ∷ 2 ∷ 0 ∷ 1 ∷ 0 ∷ []) ∷ (0 ∷ 1 ∷ 0 ∷ 1 ∷ 0 ∷ []) ∷ (0 ∷ 1 ∷ 0 ∷ 1 ∷ 0 ∷ []) ∷ (0 ∷ 2 ∷ 0 ∷ 0 ∷ 1 ∷ [])
       ∷ (0 ∷ 1 ∷ 0 ∷ 0 ∷ 0 ∷ []) ∷ (0 ∷ 2 ∷ 1 ∷ 0 ∷ 1 ∷ []) ∷ (9 ∷ 0 ∷ 0 ∷ 0 ∷ 0 ∷ []) ∷ (0 ∷ 2 ∷ 0 ∷ 1 ∷ 0 ∷ []) ∷ [];
 }
@@ -60,7 +61,7 @@ nineLines k = record {
 -- lock 0 and lock 2 get 7
 abbrev pub noSuchLock : Kernel → Row
 noSuchLock k = record {
-  come = map line (k .lines sample bytes (Enter 0 ∷ Enter 2 ∷ []));
+  come = map line (k .lines (Enter 0 ∷ Enter 2 ∷ []));
   must = (0 ∷ 2 ∷ 0 ∷ 0 ∷ 0 ∷ []) ∷ (7 ∷ 0 ∷ 0 ∷ 0 ∷ 0 ∷ []) ∷ (7 ∷ 0 ∷ 0 ∷ 0 ∷ 0 ∷ []) ∷ [];
 }
 
@@ -84,19 +85,19 @@ table k =
 -- ---- a machine that obeys the rules, as the table asks it
 
 -- the sample with its lock entered and the clock at now
-abbrev entered : (M : Machine) → ℕ → State M
+abbrev pub entered : (M : Machine) → ℕ → State M
 entered M now =
     let s = end M sample bytes (Enter 1 ∷ []) in
-    record { fields = put clock now (s .fields); queues = s .queues }
+    record { fields = put clock (now % 65536) (s .fields); queues = s .queues }
 
 abbrev pub asked : Machine → Kernel
 asked M = record {
   code = startCode;
-  lines = λ n bs cs. (start M n bs) .1 ∷ replies M n bs cs;
+  lines = λ cs. (start M sample bytes) .1 ∷ replies M sample bytes cs;
   stores = λ now t. (step M sample (entered M now) (Wait 1 1 (record { 0 = t }))) .0 .fields (timer 2);
 }
 
 -- the table holds of both machines
 both-machines : Holds (table (asked model) ++ table (asked ledger))
-unfolding step decide unless choose nakedly reading ℕ-discrete
+unfolding step decide when choose nakedly reading ℕ-discrete
 both-machines = refl

@@ -1,5 +1,4 @@
 pub mod Calls
 pub mod History
-pub mod Table
 pub mod Wire
 pub mod Replay

@@ -1,15 +1,15 @@
 -- Computed examples: two answers' lines, and where a digit is added. By computation. Assumes nothing.
 use mathlib.Core.Path.{_≡_, refl}
 use mathlib.Core.List.{[], _∷_, map}
+use Rattle.model.specs.Text.{bytesOf}
 use Rattle.print.specs.Print.{decimal, printed}
 
 -- the answer to the sixth of 01's nine lines, and the widest answer
 answers : map printed (record { code = 0; running = 2; retry = 1; mark = 0; moved = 1 } ∷ record { code = 65535; running = 10000; retry = 9999; mark = 100; moved = 10 } ∷ [])
-    ≡ (48 ∷ 32 ∷ 50 ∷ 32 ∷ 49 ∷ 32 ∷ 48 ∷ 32 ∷ 49 ∷ 10 ∷ []) ∷ (54 ∷ 53 ∷ 53 ∷ 51 ∷ 53 ∷ 32 ∷ 49 ∷ 48 ∷ 48 ∷ 48 ∷ 48 ∷ 32 ∷ 57 ∷ 57 ∷ 57 ∷ 57 ∷ 32 ∷ 49 ∷ 48 ∷ 48 ∷ 32 ∷ 49 ∷ 48 ∷ 10 ∷ []) ∷ []
+    ≡ map bytesOf ("0 2 1 0 1\n" ∷ "65535 10000 9999 100 10\n" ∷ [])
 answers = refl
 
 -- where a digit is added
 widths : map decimal (0 ∷ 9 ∷ 10 ∷ 99 ∷ 100 ∷ 999 ∷ 1000 ∷ 9999 ∷ 10000 ∷ 65535 ∷ [])
-    ≡ (48 ∷ []) ∷ (57 ∷ []) ∷ (49 ∷ 48 ∷ []) ∷ (57 ∷ 57 ∷ []) ∷ (49 ∷ 48 ∷ 48 ∷ []) ∷ (57 ∷ 57 ∷ 57 ∷ []) ∷ (49 ∷ 48 ∷ 48 ∷ 48 ∷ []) ∷ (57 ∷ 57 ∷ 57 ∷ 57 ∷ [])
-    ∷ (49 ∷ 48 ∷ 48 ∷ 48 ∷ 48 ∷ []) ∷ (54 ∷ 53 ∷ 53 ∷ 51 ∷ 53 ∷ []) ∷ []
+    ≡ map bytesOf ("0" ∷ "9" ∷ "10" ∷ "99" ∷ "100" ∷ "999" ∷ "1000" ∷ "9999" ∷ "10000" ∷ "65535" ∷ [])
 widths = refl

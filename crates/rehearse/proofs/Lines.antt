@@ -4,6 +4,7 @@ use mathlib.Core.Path.{_≡_, refl, subst, subst⁻¹}
 use mathlib.Core.List.{List, [], _∷_}
 use native.Mathlib.Omega.{arith}
 use lib.ListN.{length, take, set}
+use Rattle.model.specs.Text.{bytesOf}
 use Rattle.model.specs.declared.Answer.{Answer}
 use Rattle.model.specs.declared.Call.{Call}
 use Rattle.model.specs.declared.Shape.{Shape}
@@ -32,13 +33,13 @@ module _ (r : Parsed) (bytes : List ℕ) (m : Meaning) (t : Tells r bytes m) whe
       let q : Tells (parsed.Start n k) bytes m = subst (λ (x : Parsed). Tells x bytes m) e t in
       subst⁻¹ (λ (x : Meaning). Serves x old new out) (q .1) (a, (h, o))
 
-  pub served-none : (old out : List ℕ) → r ≡ parsed.Nothing → out ≡ 63 ∷ 10 ∷ [] → Serves m old old out
+  pub served-none : (old out : List ℕ) → r ≡ parsed.Nothing → out ≡ bytesOf "?\n" → Serves m old old out
   served-none old out e o =
       let q : m ≡ none = subst (λ (x : Parsed). Tells x bytes m) e t in
       subst⁻¹ (λ (x : Meaning). Serves x old old out) q (refl, o)
 
 -- the line of what is no call
-pub question : (l : List ℕ) → 30 ≤ length l → take 2 (set (set l 0 63) 1 10) ≡ 63 ∷ 10 ∷ []
+pub question : (l : List ℕ) → 30 ≤ length l → take 2 (set (set l 0 63) 1 10) ≡ bytesOf "?\n"
 question [] h = let z : ⊥ = omega arith in absurd z
 question (x ∷ []) h = let z : ⊥ = omega arith in absurd z
 question (x ∷ y ∷ ys) h = refl

@@ -1,7 +1,8 @@
 -- What Rehearse does with a line: the area and the line that comes out. Assumes nothing.
 use Prim.Native.Nat.{ℕ, _≤_}
 use mathlib.Core.Path.{_≡_}
-use mathlib.Core.List.{List, [], _∷_}
+use mathlib.Core.List.{List}
+use Rattle.model.specs.Text.{bytesOf}
 use Rattle.model.specs.declared.Answer.{Answer}
 use Rattle.start.specs.Start.{Starts}
 use Rattle.monitor.specs.Calls.{Performs}
@@ -15,7 +16,7 @@ use Rattle.rehearse.specs.declared.Turn.the-variants.{More, Done}
 abbrev pub Serves : Meaning → List ℕ → List ℕ → List ℕ → Type 0
 Serves (call c) old new out = (a : Answer) × (Performs c old new a × (out ≡ printed a))
 Serves (start n bytes) old new out = (a : Answer) × (Starts n bytes old new a × (out ≡ printed a))
-Serves none old new out = (new ≡ old) × (out ≡ 63 ∷ 10 ∷ [])
+Serves none old new out = (new ≡ old) × (out ≡ bytesOf "?\n")
 
 -- the open line's bytes are within its room
 abbrev pub Within : Turn → ℕ → Type 0

@@ -4,6 +4,7 @@ use mathlib.Core.Bool.{cond}
 use mathlib.Core.List.{List, [], _∷_, map}
 use lib.Dec.{leb}
 use lib.ListN.{length}
+use Rattle.model.specs.Text.{bytesOf}
 use Rattle.model.specs.declared.Shape.{Shape}
 use Rattle.model.specs.declared.Call.{Call}
 use Rattle.model.specs.declared.Call.the-variants as calls
@@ -19,19 +20,19 @@ pub data Meaning : Type 0 where
 
 -- ---- names
 
--- each name in lower case, letter by letter as bytes
+-- each name in lower case
 abbrev pub nameOf : List ℕ → Name
 nameOf w =
-    cond (same w (115 ∷ 116 ∷ 97 ∷ 114 ∷ 116 ∷ [])) Start
-    (cond (same w (101 ∷ 110 ∷ 116 ∷ 101 ∷ 114 ∷ [])) Enter
-    (cond (same w (101 ∷ 120 ∷ 105 ∷ 116 ∷ [])) Exit
-    (cond (same w (119 ∷ 97 ∷ 105 ∷ 116 ∷ [])) Wait
-    (cond (same w (110 ∷ 111 ∷ 116 ∷ 105 ∷ 102 ∷ 121 ∷ [])) Notify
-    (cond (same w (98 ∷ 114 ∷ 111 ∷ 97 ∷ 100 ∷ 99 ∷ 97 ∷ 115 ∷ 116 ∷ [])) Broadcast
-    (cond (same w (110 ∷ 97 ∷ 107 ∷ 101 ∷ 100 ∷ [])) Naked
-    (cond (same w (114 ∷ 101 ∷ 113 ∷ 117 ∷ 101 ∷ 117 ∷ 101 ∷ [])) Requeue
-    (cond (same w (115 ∷ 101 ∷ 116 ∷ 112 ∷ 114 ∷ 105 ∷ 111 ∷ 114 ∷ 105 ∷ 116 ∷ 121 ∷ [])) SetPriority
-    (cond (same w (116 ∷ 105 ∷ 99 ∷ 107 ∷ [])) Tick Unknown)))))))))
+    cond (same w (bytesOf "start")) Start
+    (cond (same w (bytesOf "enter")) Enter
+    (cond (same w (bytesOf "exit")) Exit
+    (cond (same w (bytesOf "wait")) Wait
+    (cond (same w (bytesOf "notify")) Notify
+    (cond (same w (bytesOf "broadcast")) Broadcast
+    (cond (same w (bytesOf "naked")) Naked
+    (cond (same w (bytesOf "requeue")) Requeue
+    (cond (same w (bytesOf "setpriority")) SetPriority
+    (cond (same w (bytesOf "tick")) Tick Unknown)))))))))
 
 -- ---- calls
 
