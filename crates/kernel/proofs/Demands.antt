@@ -18,7 +18,7 @@ use Rattle.monitor.specs.Wire.{packed, answerOf, listedOf}
 use Rattle.monitor.specs.History.{Run}
 use Rattle.monitor.specs.History.Run.{none, then}
 use Rattle.monitor.proofs.History.{run-ends}
-use Rattle.monitor.proofs.Promises.{performs-spares, starts-spares, lists-spares, performs-keeps, performs-alike, lists-alike, starts-alike, read-answer, read-listed}
+use Rattle.monitor.proofs.Promises.{performs-spares, starts-spares, lists-spares, performs-keeps, starts-keeps, performs-alike, lists-alike, starts-alike, read-answer, read-listed}
 use Rattle.kernel.specs.Exports.{Conveys, Crosses, Begins, Writes, Judges}
 use Rattle.kernel.specs.Demands.{Demand1, Demand2, Demand3, Beyond}
 
@@ -59,7 +59,7 @@ demand1 = record {
 pub demand2 : Demand2
 demand2 = record { call = crossed; start = begun; list = listed; sound = λ J. J .says }
 
-run-crossed : {cs : List Call} {old new : List ℕ} {rs : List ℕ} → Run Crosses cs old new rs → Run Performs cs old new (map answerOf rs)
+pub run-crossed : {cs : List Call} {old new : List ℕ} {rs : List ℕ} → Run Crosses cs old new rs → Run Performs cs old new (map answerOf rs)
 run-crossed none = none
 run-crossed (then C R) = then (crossed C) (run-crossed R)
 
@@ -77,7 +77,8 @@ judged-alike {a} {b} {r} {s} A J K = elim (ℕ-discrete r 1) [
 
 pub beyond : Beyond
 beyond = record {
-  kept = λ C. performs-keeps (C .keeps);
+  kept-call = λ C. performs-keeps (C .keeps);
+  kept-start = λ B. starts-keeps (B .keeps);
   call = λ A C D. let p = performs-alike A (C .keeps) (D .keeps) in (same-number C D (p .0), p .1);
   list = λ A C D. let p = lists-alike A (C .keeps) (D .keeps) in (same-number C D (p .0), p .1);
   sound = judged-alike;

@@ -18,7 +18,8 @@ use Rattle.monitor.specs.Wire.{answerOf, listedOf}
 use Rattle.monitor.specs.History as history
 use Rattle.kernel.specs.Exports.{Crosses, Begins, Writes, Judges}
 
--- 1. Every area and every number is answered, since no export requires anything. Of the answers:
+-- 1. Every area and every number is answered, since no export requires anything; and a wrong number gets the refusal that the rules of demand 2
+-- name. Besides:
 pub record Demand1 : Type 0 where
   -- an unsound area gets refusal 1 from each of the nine calls and from List, and Sound says no
   pub unsound-call : {c : Call} {old new : List ℕ} {r : ℕ} → Crosses c old new r → (Sound old → ⊥) → (answerOf r ≡ refusal 1) × (new ≡ old)
@@ -45,7 +46,8 @@ Demand3 = history.Demand3 answerOf Begins Crosses
 
 -- The words beyond an area's size are never changed and never read: areas that agree below it are answered alike, and agree afterwards
 pub record Beyond : Type 0 where
-  pub kept : {c : Call} {old new : List ℕ} {r : ℕ} → Crosses c old new r → drop (size (shapeOf old)) new ≡ drop (size (shapeOf old)) old
+  pub kept-call : {c : Call} {old new : List ℕ} {r : ℕ} → Crosses c old new r → drop (size (shapeOf old)) new ≡ drop (size (shapeOf old)) old
+  pub kept-start : {n : Shape} {bytes old new : List ℕ} {r : ℕ} → Begins n bytes old new r → drop (size n) new ≡ drop (size n) old
   pub call : {c : Call} {a b a′ b′ : List ℕ} {r s : ℕ} → Agree a b → Crosses c a a′ r → Crosses c b b′ s
       → (r ≡ s) × (take (size (shapeOf a)) a′ ≡ take (size (shapeOf a)) b′)
   pub list : {kind number : ℕ} {a b old new other : List ℕ} {r s : ℕ} → Agree a b → Writes kind number a old new r → Writes kind number b old other s → (r ≡ s) × (new ≡ other)

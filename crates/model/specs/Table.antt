@@ -16,29 +16,26 @@ use Rattle.model.specs.Machine.{Machine, State, model, start, step}
 use Rattle.model.specs.Ledger.{ledger, reading}
 use Rattle.model.specs.History.{end, replies}
 
--- what a kernel is asked: Start's code; the answers to Start of the sample and then to a list of calls; the timer that a wait of t ticks stores
--- at a clock
-pub record Kernel : Type 0 where
-  pub code : Shape → List ℕ → ℕ
-  pub lines : List Call → List Answer
-  pub stores : ℕ → ℕ → ℕ
+-- ---- what must come
 
 -- a row: the lines of numbers that come, and those that must come
 pub record Row : Type 0 where
   pub come : List (List ℕ)
   pub must : List (List ℕ)
 
--- the whole table, as one fact
+-- rows, as one fact
 abbrev pub Holds : List Row → Type 0
 Holds rows = map (λ (r : Row). r .come) rows ≡ map (λ (r : Row). r .must) rows
 
--- a row of one number
-abbrev pub one : ℕ → ℕ → Row
-one x y = record { come = (x ∷ []) ∷ []; must = (y ∷ []) ∷ [] }
+-- one number
+abbrev pub one : ℕ → List (List ℕ)
+one x = (x ∷ []) ∷ []
 
 -- the five fields of an answer in their order
 abbrev pub line : Answer → List ℕ
 line a = a .code ∷ a .running ∷ a .retry ∷ a .mark ∷ a .moved ∷ []
+
+-- ---- what is asked
 
 -- three processes with priorities 2, 5, 2, a lock and a condition
 abbrev pub sample : Shape
@@ -47,57 +44,60 @@ sample = record { processes = 3; locks = 1; conditions = 1; parks = 0 }
 abbrev pub bytes : List ℕ
 bytes = 2 ∷ 5 ∷ 2 ∷ []
 
+-- Start's code; the answers to Start of the sample and then to calls; the timer that a wait of t ticks stores in the sample at a clock
+pub data Question : Type 0 where
+  code : Shape → List ℕ → Question
+  lines : List Call → Question
+  stores : (now t : ℕ) → Question
+
 -- Start's code with P processes of priority v, no lock, no condition, K parks
-abbrev pub starts : Kernel → ℕ → ℕ → ℕ → ℕ
-starts k p v parks = k .code record { processes = p; locks = 0; conditions = 0; parks = parks } (replicate p v)
+abbrev pub starts : ℕ → ℕ → ℕ → Question
+starts p v parks = code record { processes = p; locks = 0; conditions = 0; parks = parks } (replicate p v)
 
-abbrev pub nineLines : Kernel → Row
-nineLines k = record {
-  come = map line (k .lines (Enter 1 ∷ Wait 1 1 (record { 0 = 0 }) ∷ Enter 1 ∷ Notify 1 ∷ Enter 1 ∷ Exit 1 ∷ Exit 1 ∷ Enter 1 ∷ []));
-  must = (0 ∷ 2 ∷ 0 ∷ 0 ∷ 0 ∷ []) ∷ (0 ∷ 2 ∷ 0 ∷ 1 ∷ 0 ∷ []) ∷ (0 ∷ 1 ∷ 0 ∷ 1 ∷ 0 ∷ []) ∷ (0 ∷ 1 ∷ 0 ∷ 1 ∷ 0 ∷ []) ∷ (0 ∷ 2 ∷ 0 ∷ 0 ∷ 1 ∷ [])
-      ∷ (0 ∷ 1 ∷ 0 ∷ 0 ∷ 0 ∷ []) ∷ (0 ∷ 2 ∷ 1 ∷ 0 ∷ 1 ∷ []) ∷ (9 ∷ 0 ∷ 0 ∷ 0 ∷ 0 ∷ []) ∷ (0 ∷ 2 ∷ 0 ∷ 1 ∷ 0 ∷ []) ∷ [];
-}
+-- ---- the table
 
--- lock 0 and lock 2 get 7
-abbrev pub noSuchLock : Kernel → Row
-noSuchLock k = record {
-  come = map line (k .lines (Enter 0 ∷ Enter 2 ∷ []));
-  must = (0 ∷ 2 ∷ 0 ∷ 0 ∷ 0 ∷ []) ∷ (7 ∷ 0 ∷ 0 ∷ 0 ∷ 0 ∷ []) ∷ (7 ∷ 0 ∷ 0 ∷ 0 ∷ 0 ∷ []) ∷ [];
-}
+-- the calls of the nine lines after their start
+abbrev pub nine : List Call
+nine = Enter 1 ∷ Wait 1 1 (record { 0 = 0 }) ∷ Enter 1 ∷ Notify 1 ∷ Enter 1 ∷ Exit 1 ∷ Exit 1 ∷ Enter 1 ∷ []
 
-abbrev pub table : Kernel → List Row
-table k =
-    nineLines k
-    ∷ one (starts k 1023 0 0) 0
-    ∷ one (starts k 0 0 0) 2
-    ∷ one (starts k 1024 0 0) 2
-    ∷ one (starts k 1 0 8) 0
-    ∷ one (starts k 1 0 9) 2
-    ∷ one (k .code sample (2 ∷ 5 ∷ [])) 3
-    ∷ one (starts k 1 7 0) 0
-    ∷ one (starts k 1 8 0) 4
-    ∷ noSuchLock k
-    ∷ one (k .stores 65534 1) 65535
-    ∷ one (k .stores 65535 1) 1
-    ∷ one (k .stores 65535 2) 1
+-- each question, and the lines of numbers that must come
+abbrev pub table : List (Question × List (List ℕ))
+table = (
+  lines nine,
+  (0 ∷ 2 ∷ 0 ∷ 0 ∷ 0 ∷ []) ∷ (0 ∷ 2 ∷ 0 ∷ 1 ∷ 0 ∷ []) ∷ (0 ∷ 1 ∷ 0 ∷ 1 ∷ 0 ∷ []) ∷ (0 ∷ 1 ∷ 0 ∷ 1 ∷ 0 ∷ []) ∷ (0 ∷ 2 ∷ 0 ∷ 0 ∷ 1 ∷ [])
+      ∷ (0 ∷ 1 ∷ 0 ∷ 0 ∷ 0 ∷ []) ∷ (0 ∷ 2 ∷ 1 ∷ 0 ∷ 1 ∷ []) ∷ (9 ∷ 0 ∷ 0 ∷ 0 ∷ 0 ∷ []) ∷ (0 ∷ 2 ∷ 0 ∷ 1 ∷ 0 ∷ []) ∷ [],
+)
+    ∷ (starts 1023 0 0, one 0)
+    ∷ (starts 0 0 0, one 2)
+    ∷ (starts 1024 0 0, one 2)
+    ∷ (starts 1 0 8, one 0)
+    ∷ (starts 1 0 9, one 2)
+    ∷ (code sample (2 ∷ 5 ∷ []), one 3)
+    ∷ (starts 1 7 0, one 0)
+    ∷ (starts 1 8 0, one 4)
+    ∷ (lines (Enter 0 ∷ Enter 2 ∷ []), (0 ∷ 2 ∷ 0 ∷ 0 ∷ 0 ∷ []) ∷ (7 ∷ 0 ∷ 0 ∷ 0 ∷ 0 ∷ []) ∷ (7 ∷ 0 ∷ 0 ∷ 0 ∷ 0 ∷ []) ∷ [])
+    ∷ (stores 65534 1, one 65535)
+    ∷ (stores 65535 1, one 1)
+    ∷ (stores 65535 2, one 1)
     ∷ []
 
 -- ---- a machine that obeys the rules, as the table asks it
 
--- the sample with its lock entered and the clock at now
+-- the sample with its lock entered and the clock at now, which goes round
 abbrev pub entered : (M : Machine) → ℕ → State M
 entered M now =
     let s = end M sample bytes (Enter 1 ∷ []) in
     record { fields = put clock (now % 65536) (s .fields); queues = s .queues }
 
-abbrev pub asked : Machine → Kernel
-asked M = record {
-  code = startCode;
-  lines = λ cs. (start M sample bytes) .1 ∷ replies M sample bytes cs;
-  stores = λ now t. (step M sample (entered M now) (Wait 1 1 (record { 0 = t }))) .0 .fields (timer 2);
-}
+abbrev pub told : Machine → Question → List (List ℕ)
+told M (code n bs) = one (startCode n bs)
+told M (lines cs) = map line ((start M sample bytes) .1 ∷ replies M sample bytes cs)
+told M (stores now t) = one ((step M sample (entered M now) (Wait 1 1 (record { 0 = t }))) .0 .fields (timer 2))
+
+abbrev pub rowsOf : Machine → List Row
+rowsOf M = map (λ (r : Question × List (List ℕ)). record { come = told M (r .0); must = r .1 }) table
 
 -- the table holds of both machines
-both-machines : Holds (table (asked model) ++ table (asked ledger))
+both-machines : Holds (rowsOf model ++ rowsOf ledger)
 unfolding step decide when choose nakedly reading ℕ-discrete
 both-machines = refl

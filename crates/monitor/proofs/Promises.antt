@@ -146,6 +146,13 @@ performs-keeps {c} {old} {new} P =
     (λ S. ap (drop (size (shapeOf old))) (P .sound S .1) ∙ write-beyond (shapeOf old) ((step model (shapeOf old) (stateOf old) c) .0) old)
     (λ u. ap (drop (size (shapeOf old))) (P .unsound u .1))
 
+pub starts-keeps : {n : Shape} {bytes old new : List ℕ} {a : Answer} → Starts n bytes old new a → drop (size n) new ≡ drop (size n) old
+starts-keeps {n} {bytes} {old} {new} S = go (eqb-case (startOn n bytes (length old)) 0)
+  where
+    go : EqCase (startOn n bytes (length old)) 0 → drop (size n) new ≡ drop (size n) old
+    go (holds d e) = ap (drop (size n)) (S .accepted d .1) ∙ write-beyond n ((start model n bytes) .0) old
+    go (fails d e) = ap (drop (size n)) (S .refused d .1)
+
 -- and are not read: areas that agree below their size are answered alike, and agree afterwards
 module _ {a b : List ℕ} (A : Agree a b) where
   unsound-same : (Sound a → ⊥) → Sound b → ⊥

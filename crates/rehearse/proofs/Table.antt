@@ -18,7 +18,8 @@ use Rattle.model.specs.Machine.{State, model, step, start, after, answers}
 use Rattle.model.specs.Valid.{Valid}
 use Rattle.model.specs.History.{replies}
 use Rattle.model.specs.Table as tables
-use Rattle.model.specs.Table.{Row, Holds, sample, bytes, table, entered}
+use Rattle.model.specs.Table.{one, line, sample, bytes}
+use Rattle.model.specs.Table.Question.{code, lines, stores}
 use Rattle.area.specs.Layout.{size, slots, alter, Stored}
 use Rattle.area.specs.Layout.Part.{kept}
 use Rattle.area.specs.Layout.Slot.{Clock}
@@ -28,17 +29,19 @@ use Rattle.area.specs.Holds.{with}
 use Rattle.area.specs.Sound.{Sound}
 use Rattle.area.proofs.Stores.{store}
 use Rattle.area.proofs.Puts.{placed-with, becomes-with}
-use Rattle.start.specs.Start.{startOn, Starts}
-use Rattle.monitor.specs.Calls.{Performs}
+use Rattle.start.specs.Start.{startOn}
 use Rattle.monitor.specs.Wire.{answerOf}
-use Rattle.monitor.proofs.History.{Keeps, keeps-sound, keeps-state, step-answer, step-keeps, start-keeps}
+use Rattle.monitor.proofs.History.{Keeps, keeps-sound, keeps-state, step-answer, step-keeps, run-answers, run-keeps, start-keeps}
 use Rattle.monitor.proofs.Promises.{long-code, starts-code}
-use Rattle.kernel.proofs.Demands.{demand2}
+use Rattle.kernel.specs.Exports.{Begins, Crosses}
+use Rattle.kernel.proofs.Demands.{demand2, run-crossed}
 use Rattle.script.specs.Line.{Meaning, meaning}
-use Rattle.script.specs.Line.Meaning.{call as called, start as begins}
+use Rattle.script.specs.Line.Meaning.{call, start as begins}
 use Rattle.print.specs.Print.{printed}
 use Rattle.rehearse.specs.Serve.{Serves}
-use Rattle.rehearse.specs.Table.{Kernel, zeros, codeOn, started, reached, answered, clocked, asked, inputs, printing, passing, rows, Table}
+use Rattle.rehearse.specs.Table.{Question, rows, zeros, Started, Played, Comes, AllCome, Table}
+use Rattle.rehearse.specs.Table.Question.{typed, words, room, asked}
+use Rattle.rehearse.specs.Table.Played.{none, then}
 
 -- ---- the clock's word may be set to any time
 
@@ -73,9 +76,33 @@ module _ {n : Shape} {ws : List ℕ} {s : State model} (K : Keeps n ws s) (v : �
       let now : areas.Holds n ws s = record { placed = K .valid .placed; image = K .image } in
       record { valid = clock-valid; image = becomes-with now clock v h not-priority not-holder clock-stored .holds .image }
 
--- ---- lines that are calls
+-- ---- areas of zeros
 
--- a line, and its call
+zeros-long : (k : ℕ) → length (zeros k) ≡ k
+unfolding zeros
+zeros-long k = length-replicate k 0
+
+room-is : {n : Shape} {bs ws : List ℕ} {r : ℕ} (k : ℕ) → Begins n bs (zeros k) ws r → answerOf r .code ≡ startOn n bs k
+room-is {n} {bs} k B = starts-code (demand2 .start B) ∙ ap (startOn n bs) (zeros-long k)
+
+-- ---- what C is answered
+
+module _ {begun : List ℕ} {r : ℕ} (B : Started begun r) where
+  fits : startOn sample bytes (length (zeros (size sample))) ≡ 0
+  fits = ap (startOn sample bytes) (zeros-long (size sample))
+
+  started-is : (answerOf r ≡ (start model sample bytes) .1) × (begun ≡ write sample ((start model sample bytes) .0) (zeros (size sample)))
+  started-is = demand2 .start B .accepted fits
+
+  started-keeps : Keeps sample begun ((start model sample bytes) .0)
+  started-keeps = start-keeps (demand2 .start B) (room-is (size sample) B)
+
+  clocked-keeps : {entered : List ℕ} {s : ℕ} (now : ℕ) → Crosses (Enter 1) begun entered s → Keeps sample (set entered 3 (now % 65536)) (tables.entered model now)
+  clocked-keeps now C = clock-keeps (step-keeps started-keeps (demand2 .call C)) (now % 65536) (omega arith)
+
+-- ---- what Rehearse prints
+
+-- a line, and the call that it is
 abbrev Line : Type 0
 Line = List ℕ × Call
 
@@ -86,9 +113,9 @@ abbrev callOf : Line → Call
 callOf l = l .1
 
 abbrev Means : Line → Type 0
-Means l = meaning (l .0) ≡ called (l .1)
+Means l = meaning (l .0) ≡ call (l .1)
 
--- those of the nine that come after Start
+-- the nine but the first
 abbrev eight : List Line
 eight =
     (bytesOf "enter 1", Enter 1)
@@ -104,110 +131,67 @@ eight =
 eight-mean : All Means eight
 eight-mean = (refl, (refl, (refl, (refl, (refl, (refl, (refl, (refl, tt))))))))
 
--- ---- areas of zeros
+served : {old new out : List ℕ} (l : Line) → Means l → Serves (meaning (lineOf l)) old new out → Serves (call (callOf l)) old new out
+served {old} {new} {out} l e S = subst (λ (m : Meaning). Serves m old new out) e S
 
-zeros-long : (k : ℕ) → length (zeros k) ≡ k
-unfolding zeros
-zeros-long k = length-replicate k 0
+module _ {n : Shape} where
+  played-prints : (ls : List Line) → All Means ls → {ws new : List ℕ} {xs : List (List ℕ)} {s : State model} → Keeps n ws s → Played (map lineOf ls) ws new xs → xs ≡ map printed (answers model n s (map callOf ls))
+  played-prints [] t K none = refl
+  played-prints (l ∷ ls) (e, es) K (then S P) =
+      let v = served l e S in
+      λ i. (v .1 .1 ∙ ap printed (step-answer K (v .1 .0))) i ∷ played-prints ls es (step-keeps K (v .1 .0)) P i
 
-sample-long : startOn sample bytes (length (zeros 18)) ≡ 0
-sample-long = ap (startOn sample bytes) (zeros-long 18)
+  played-keeps : (ls : List Line) → All Means ls → {ws new : List ℕ} {xs : List (List ℕ)} {s : State model} → Keeps n ws s → Played (map lineOf ls) ws new xs → Keeps n new (after model n s (map callOf ls))
+  played-keeps [] t K none = K
+  played-keeps (l ∷ ls) (e, es) K (then S P) = played-keeps ls es (step-keeps K (served l e S .1 .0)) P
 
--- ---- the kernel as it is asked from C
+module _ {mid out : List ℕ} (S : Serves (begins sample bytes) (zeros 8192) mid out) where
+  accepts : startOn sample bytes (length (zeros 8192)) ≡ 0
+  accepts = ap (startOn sample bytes) (zeros-long 8192)
 
-module _ (K : Kernel) where
-  begun : (n : Shape) (bs : List ℕ) (k : ℕ) → Starts n bs (zeros k) ((K .start n bs (zeros k)) .0) (answerOf ((K .start n bs (zeros k)) .1))
-  begun n bs k = demand2 .start (K .starts n bs (zeros k))
+  first-prints : out ≡ printed ((start model sample bytes) .1)
+  first-prints = S .1 .1 ∙ ap printed (S .1 .0 .accepted accepts .0)
 
-  performed : (c : Call) (ws : List ℕ) → Performs c ws ((K .call c ws) .0) (answerOf ((K .call c ws) .1))
-  performed c ws = demand2 .call (K .calls c ws)
+  first-keeps : Keeps sample mid ((start model sample bytes) .0)
+  first-keeps = start-keeps (S .1 .0) (starts-code (S .1 .0) ∙ accepts)
 
-  code-is : (n : Shape) (bs : List ℕ) (k : ℕ) → codeOn K n bs k ≡ startOn n bs k
-  code-is n bs k = starts-code (begun n bs k) ∙ ap (startOn n bs) (zeros-long k)
+typed-prints : {ws : List ℕ} {xs : List (List ℕ)} → Played (bytesOf "start 3 1 1 0 2 5 2" ∷ map lineOf eight) (zeros 8192) ws xs → xs ≡ map printed ((start model sample bytes) .1 ∷ replies model sample bytes tables.nine)
+typed-prints (then S P) = λ i. first-prints S i ∷ played-prints eight eight-mean (first-keeps S) P i
 
-  sample-code : codeOn K sample bytes (size sample) ≡ 0
-  sample-code = code-is sample bytes (size sample)
+lines-sound : {ws : List ℕ} {xs : List (List ℕ)} (ls : List Line) → All Means ls → Played (bytesOf "start 3 1 1 0 2 5 2" ∷ map lineOf ls) (zeros 8192) ws xs → Sound ws
+lines-sound ls m (then S P) = keeps-sound (played-keeps ls m (first-keeps S) P)
 
-  started-keeps : Keeps sample (started K) ((start model sample bytes) .0)
-  started-keeps = start-keeps (begun sample bytes (size sample)) sample-code
+-- ---- the table
 
-  module _ {n : Shape} where
-    reached-keeps : (cs : List Call) {ws : List ℕ} {s : State model} → Keeps n ws s → Keeps n (reached K ws cs) (after model n s cs)
-    reached-keeps [] k = k
-    reached-keeps (c ∷ cs) {ws} k = reached-keeps cs (step-keeps k (performed c ws))
+-- what must come of a question, by the model
+abbrev told : Question → List (List ℕ)
+told typed = map printed ((start model sample bytes) .1 ∷ replies model sample bytes tables.nine)
+told words = write sample ((start model sample bytes) .0) (zeros (size sample)) ∷ []
+told (room k) = one (startOn sample bytes k)
+told (asked q) = tables.told model q
 
-    answered-is : (cs : List Call) {ws : List ℕ} {s : State model} → Keeps n ws s → answered K ws cs ≡ answers model n s cs
-    answered-is [] k = refl
-    answered-is (c ∷ cs) {ws} k = λ i. step-answer k (performed c ws) i ∷ answered-is cs (step-keeps k (performed c ws)) i
+comes-told : (q : Question) (xs : List (List ℕ)) → Comes q xs → xs ≡ told q
+comes-told typed xs c = typed-prints (c .1)
+comes-told words xs c = c .3 ∙ ap (λ (ws : List ℕ). ws ∷ []) (started-is (c .2) .1)
+comes-told (room k) xs c = c .3 ∙ ap one (room-is k (c .2))
+comes-told (asked (code n bs)) xs c = c .3 ∙ ap one (room-is (size n) (c .2) ∙ long-code n bs (size n) (omega arith))
+comes-told (asked (lines cs)) xs c =
+    c .6 ∙ (λ i. map line (started-is (c .4) .0 i ∷ run-answers ((start model sample bytes) .0) (started-keeps (c .4)) (run-crossed (c .5)) i))
+comes-told (asked (stores now t)) xs c =
+    c .9 ∙ ap {A = State model} (λ s. one (s .fields (timer 2))) (keeps-state (step-keeps (clocked-keeps (c .6) now (c .7)) (demand2 .call (c .8))))
 
-  clocked-keeps : (now : ℕ) → Keeps sample (clocked K now) (entered model now)
-  clocked-keeps now = clock-keeps (reached-keeps (Enter 1 ∷ []) started-keeps) (now % 65536) (omega arith)
+all-told : (rs : List (Question × List (List ℕ))) (xs : List (List (List ℕ))) → AllCome rs xs → xs ≡ map (λ (r : Question × List (List ℕ)). told (r .0)) rs
+all-told [] [] c = refl
+all-told (r ∷ rs) (x ∷ xs) c = λ i. comes-told (r .0) x (c .0) i ∷ all-told rs xs (c .1) i
 
-  -- it is asked as the model is
-  asked-is : asked K ≡ tables.asked model
-  asked-is = λ i. record {
-    code = λ n bs. (code-is n bs (size n) ∙ long-code n bs (size n) (omega arith)) i;
-    lines = λ cs. begun sample bytes (size sample) .accepted sample-long .0 i ∷ answered-is cs started-keeps i;
-    stores = λ now t. ap {A = State model} (λ s. s .fields (timer 2)) (keeps-state (step-keeps (clocked-keeps now) (performed (Wait 1 1 (record { 0 = t })) (clocked K now)))) i;
-  }
+computed : map (λ (r : Question × List (List ℕ)). told (r .0)) rows ≡ map (λ (r : Question × List (List ℕ)). r .1) rows
+unfolding step decide when choose nakedly write slots zeros ℕ-discrete
+computed = refl
 
-  -- ---- Rehearse's lines
-
-  served : (l : Line) → Means l → (ws : List ℕ) → Serves (called (callOf l)) ws ((K .serve (lineOf l) ws) .0) ((K .serve (lineOf l) ws) .1)
-  served l e ws = subst (λ (m : Meaning). Serves m ws ((K .serve (lineOf l) ws) .0) ((K .serve (lineOf l) ws) .1)) e (K .serves (lineOf l) ws)
-
-  module _ {n : Shape} where
-    printing-is : (ls : List Line) → All Means ls → {ws : List ℕ} {s : State model} → Keeps n ws s → printing K ws (map lineOf ls) ≡ map printed (answers model n s (map callOf ls))
-    printing-is [] t k = refl
-    printing-is (l ∷ ls) (e, es) {ws} k =
-        let v = served l e ws in
-        λ i. (v .1 .1 ∙ ap printed (step-answer k (v .1 .0))) i ∷ printing-is ls es (step-keeps k (v .1 .0)) i
-
-    passing-sound : (ls : List Line) → All Means ls → {ws : List ℕ} {s : State model} → Keeps n ws s → All Sound (passing K ws (map lineOf ls))
-    passing-sound [] t k = tt
-    passing-sound (l ∷ ls) (e, es) {ws} k =
-        let j = step-keeps k (served l e ws .1 .0) in
-        (keeps-sound j, passing-sound ls es j)
-
-  first : Serves (begins sample bytes) (zeros 8192) ((K .serve (bytesOf "start 3 1 1 0 2 5 2") (zeros 8192)) .0) ((K .serve (bytesOf "start 3 1 1 0 2 5 2") (zeros 8192)) .1)
-  first = K .serves (bytesOf "start 3 1 1 0 2 5 2") (zeros 8192)
-
-  room : startOn sample bytes (length (zeros 8192)) ≡ 0
-  room = ap (startOn sample bytes) (zeros-long 8192)
-
-  first-keeps : Keeps sample ((K .serve (bytesOf "start 3 1 1 0 2 5 2") (zeros 8192)) .0) ((start model sample bytes) .0)
-  first-keeps = start-keeps (first .1 .0) (starts-code (first .1 .0) ∙ room)
-
-  nine-are : printing K (zeros 8192) inputs ≡ map printed ((start model sample bytes) .1 ∷ replies model sample bytes (map callOf eight))
-  nine-are = λ i. (first .1 .1 ∙ ap printed (first .1 .0 .accepted room .0)) i ∷ printing-is eight eight-mean first-keeps i
-
-  -- ---- the table
-
-  -- what comes, computed
-  abbrev come : List (List (List ℕ))
-  come =
-      map printed ((start model sample bytes) .1 ∷ replies model sample bytes (map callOf eight))
-      ∷ (write sample ((start model sample bytes) .0) (zeros 18) ∷ [])
-      ∷ ((startOn sample bytes 17 ∷ []) ∷ [])
-      ∷ ((startOn sample bytes 18 ∷ []) ∷ [])
-      ∷ map (λ (r : Row). r .come) (table (tables.asked model))
-
-  come-is : map (λ (r : Row). r .come) (rows K) ≡ come
-  come-is = λ i.
-      nine-are i
-      ∷ (begun sample bytes 18 .accepted sample-long .1 i ∷ [])
-      ∷ ((code-is sample bytes 17 i ∷ []) ∷ [])
-      ∷ ((code-is sample bytes 18 i ∷ []) ∷ [])
-      ∷ map (λ (r : Row). r .come) (table (asked-is i))
-
-  computed : come ≡ map (λ (r : Row). r .must) (rows K)
-  unfolding step decide when choose nakedly write slots zeros ℕ-discrete
-  computed = refl
-
-  pub whole-table : Table K
-  whole-table = record {
-    hold = come-is ∙ computed;
-    sound-reached = λ cs. keeps-sound (reached-keeps cs started-keeps);
-    sound-clocked = λ now. keeps-sound (clocked-keeps now);
-    sound-passing = (keeps-sound first-keeps, passing-sound eight eight-mean first-keeps);
-  }
+pub whole-table : Table
+whole-table = record {
+  holds = λ {xs} c. all-told rows xs c ∙ computed;
+  sound-calls = λ B R. keeps-sound (run-keeps ((start model sample bytes) .0) (started-keeps B) (run-crossed R));
+  sound-clock = λ now B C. keeps-sound (clocked-keeps B now C);
+  sound-lines = lines-sound;
+}

@@ -1,82 +1,31 @@
--- 01's whole table, of any kernel that keeps its promises: what C is answered, the words, and Rehearse's lines from the bytes of a line to the
--- bytes printed. All rows are one fact, `whole-table` (`crates/rehearse/proofs/Table.antt`). Assumes nothing.
+-- 01's whole table, of what C calls and of Rehearse: whatever comes of its rows from exports and lines that keep their promises is what must
+-- come. All rows are one fact, and each area that they ask of is sound: `whole-table` (`crates/rehearse/proofs/Table.antt`). Assumes nothing.
 use Prim.Native.Nat.{ℕ, _%_}
 use Prim.Native.String.{String}
+use mathlib.Core.Path.{_≡_}
 use mathlib.Core.List.{List, [], _∷_, _++_, map}
 use lib.ListN.{replicate, set}
-use Rattle.model.specs.declared.Shape.{Shape}
 use Rattle.model.specs.declared.Call.{Call}
 use Rattle.model.specs.declared.Call.the-variants.{Enter, Wait}
-use Rattle.model.specs.declared.Answer.{Answer}
 use Rattle.model.specs.Text.{bytesOf}
 use Rattle.model.specs.Queue.{All}
 use Rattle.model.specs.Field.Field.{timer}
 use Rattle.model.specs.Table as tables
-use Rattle.model.specs.Table.{Row, Holds, one, sample, bytes, table}
+use Rattle.model.specs.Table.{one, line, sample, bytes, table}
+use Rattle.model.specs.Table.Question.{code, lines, stores}
 use Rattle.area.specs.Layout.{size}
 use Rattle.area.specs.Reading.{stateOf}
 use Rattle.area.specs.Sound.{Sound}
+use Rattle.monitor.specs.History.{Run}
 use Rattle.monitor.specs.Wire.{answerOf}
 use Rattle.kernel.specs.Exports.{Begins, Crosses}
 use Rattle.script.specs.Line.{meaning}
+use Rattle.script.specs.Line.Meaning.{call}
 use Rattle.rehearse.specs.Serve.{Serves}
 
--- ---- a kernel
+-- ---- the rows
 
--- what the exports make of any words and numbers, and Rehearse of any line, as functions that keep the promises
-pub record Kernel : Type 0 where
-  pub start : Shape → List ℕ → List ℕ → List ℕ × ℕ
-  pub starts : (n : Shape) (bs ws : List ℕ) → Begins n bs ws ((start n bs ws) .0) ((start n bs ws) .1)
-  pub call : Call → List ℕ → List ℕ × ℕ
-  pub calls : (c : Call) (ws : List ℕ) → Crosses c ws ((call c ws) .0) ((call c ws) .1)
-  pub serve : List ℕ → List ℕ → List ℕ × List ℕ
-  pub serves : (line ws : List ℕ) → Serves (meaning line) ws ((serve line ws) .0) ((serve line ws) .1)
-
--- so many words, all 0
-unfoldable pub zeros : ℕ → List ℕ
-zeros k = replicate k 0
-
--- ---- asked from C
-
--- Start's code on an area of so many words
-abbrev pub codeOn : Kernel → Shape → List ℕ → ℕ → ℕ
-codeOn K n bs k = answerOf ((K .start n bs (zeros k)) .1) .code
-
--- the sample, started in an area of its size
-abbrev pub started : Kernel → List ℕ
-started K = (K .start sample bytes (zeros (size sample))) .0
-
--- the area and the answers after calls, one after the other
-abbrev pub reached : Kernel → List ℕ → List Call → List ℕ
-reached K ws [] = ws
-reached K ws (c ∷ cs) = reached K ((K .call c ws) .0) cs
-
-abbrev pub answered : Kernel → List ℕ → List Call → List Answer
-answered K ws [] = []
-answered K ws (c ∷ cs) = answerOf ((K .call c ws) .1) ∷ answered K ((K .call c ws) .0) cs
-
--- the sample with its lock entered, and the clock's word at now
-abbrev pub clocked : Kernel → ℕ → List ℕ
-clocked K now = set (reached K (started K) (Enter 1 ∷ [])) 3 (now % 65536)
-
-abbrev pub asked : Kernel → tables.Kernel
-asked K = record {
-  code = λ n bs. codeOn K n bs (size n);
-  lines = λ cs. answerOf ((K .start sample bytes (zeros (size sample))) .1) ∷ answered K (started K) cs;
-  stores = λ now t. stateOf ((K .call (Wait 1 1 (record { 0 = t })) (clocked K now)) .0) .fields (timer 2);
-}
-
--- after its start the area is these eighteen words
-abbrev pub eighteen : Kernel → Row
-eighteen K = record {
-  come = started K ∷ [];
-  must = (0x0003 ∷ 0x0101 ∷ 0x0000 ∷ 0x0000 ∷ 0x0010 ∷ 0x0018 ∷ 0x0000 ∷ 0x0000 ∷ 0x0000
-      ∷ 0x4018 ∷ 0x0000 ∷ 0x0000 ∷ 0xA008 ∷ 0x0000 ∷ 0x0000 ∷ 0x4010 ∷ 0x0000 ∷ 0x0000 ∷ []) ∷ [];
-}
-
--- ---- asked of Rehearse
-
--- input, and its line
+-- 01's nine lines: input, and its line
 abbrev pub nine : List (String × String)
 nine =
     ("start 3 1 1 0 2 5 2", "0 2 0 0 0")
@@ -90,30 +39,67 @@ nine =
     ∷ ("enter 1", "0 2 0 1 0")
     ∷ []
 
-abbrev pub inputs : List (List ℕ)
-inputs = map (λ (p : String × String). bytesOf (p .0)) nine
+-- what is printed for the nine lines; the words after the sample's start; Start's code for it on an area of so many words; what `model` asks
+pub data Question : Type 0 where
+  typed : Question
+  words : Question
+  room : ℕ → Question
+  asked : tables.Question → Question
 
--- what is printed, and the area after each line
-abbrev pub printing : Kernel → List ℕ → List (List ℕ) → List (List ℕ)
-printing K ws [] = []
-printing K ws (l ∷ ls) = (K .serve l ws) .1 ∷ printing K ((K .serve l ws) .0) ls
+-- each question, and the lines of bytes or numbers that must come
+abbrev pub rows : List (Question × List (List ℕ))
+rows =
+    (typed, map (λ (p : String × String). bytesOf (p .1) ++ bytesOf "\n") nine)
+    ∷ (
+      words,
+      (0x0003 ∷ 0x0101 ∷ 0x0000 ∷ 0x0000 ∷ 0x0010 ∷ 0x0018 ∷ 0x0000 ∷ 0x0000 ∷ 0x0000
+          ∷ 0x4018 ∷ 0x0000 ∷ 0x0000 ∷ 0xA008 ∷ 0x0000 ∷ 0x0000 ∷ 0x4010 ∷ 0x0000 ∷ 0x0000 ∷ []) ∷ [],
+    )
+    ∷ (room 17, one 5)
+    ∷ (room 18, one 0)
+    ∷ map (λ (r : tables.Question × List (List ℕ)). (asked (r .0), r .1)) table
 
-abbrev pub passing : Kernel → List ℕ → List (List ℕ) → List (List ℕ)
-passing K ws [] = []
-passing K ws (l ∷ ls) = (K .serve l ws) .0 ∷ passing K ((K .serve l ws) .0) ls
+-- ---- what comes
 
--- each line is printed with a newline after
-abbrev pub nineLines : Kernel → Row
-nineLines K = record { come = printing K (zeros 8192) inputs; must = map (λ (p : String × String). bytesOf (p .1) ++ bytesOf "\n") nine }
+-- so many words, all 0
+unfoldable pub zeros : ℕ → List ℕ
+zeros k = replicate k 0
+
+-- the sample, started in an area of its size: its words, and Start's number
+abbrev pub Started : List ℕ → ℕ → Type 0
+Started ws r = Begins sample bytes (zeros (size sample)) ws r
+
+-- lines served one after the other: from one area to another, with what is printed
+pub data Played : List (List ℕ) → List ℕ → List ℕ → List (List ℕ) → Type 0 where
+  none : {ws : List ℕ} → Played [] ws ws []
+  then : {l out old mid new : List ℕ} {ls outs : List (List ℕ)} → Serves (meaning l) old mid out → Played ls mid new outs → Played (l ∷ ls) old new (out ∷ outs)
+
+-- these lines come of a question; Rehearse's area has 8,192 words, and the clock is word 3
+abbrev pub Comes : Question → List (List ℕ) → Type 0
+Comes typed xs = (ws : List ℕ) × Played (map (λ (p : String × String). bytesOf (p .0)) nine) (zeros 8192) ws xs
+Comes words xs = (ws : List ℕ) × (r : ℕ) × Started ws r × (xs ≡ ws ∷ [])
+Comes (room k) xs = (ws : List ℕ) × (r : ℕ) × Begins sample bytes (zeros k) ws r × (xs ≡ one (answerOf r .code))
+Comes (asked (code n bs)) xs = (ws : List ℕ) × (r : ℕ) × Begins n bs (zeros (size n)) ws r × (xs ≡ one (answerOf r .code))
+Comes (asked (lines cs)) xs =
+    (begun ws : List ℕ) × (r : ℕ) × (rs : List ℕ) × Started begun r × Run Crosses cs begun ws rs × (xs ≡ map line (answerOf r ∷ map answerOf rs))
+Comes (asked (stores now t)) xs =
+    (begun entered ws : List ℕ) × (r s u : ℕ)
+    × Started begun r × Crosses (Enter 1) begun entered s × Crosses (Wait 1 1 (record { 0 = t })) (set entered 3 (now % 65536)) ws u
+    × (xs ≡ one (stateOf ws .fields (timer 2)))
+
+-- so for each row
+abbrev pub AllCome : List (Question × List (List ℕ)) → List (List (List ℕ)) → Type 0
+AllCome [] [] = Unit {0}
+AllCome [] (x ∷ xs) = ⊥
+AllCome (r ∷ rs) [] = ⊥
+AllCome (r ∷ rs) (x ∷ xs) = Comes (r .0) x × AllCome rs xs
 
 -- ---- the table
 
-abbrev pub rows : Kernel → List Row
-rows K = nineLines K ∷ eighteen K ∷ one (codeOn K sample bytes 17) 5 ∷ one (codeOn K sample bytes 18) 0 ∷ table (asked K)
-
-pub record Table (K : Kernel) : Type 0 where
-  pub hold : Holds (rows K)
-  -- every area that a row asks of is sound: after any calls on the sample, with the clock at any time, and after each of the nine lines
-  pub sound-reached : (cs : List Call) → Sound (reached K (started K) cs)
-  pub sound-clocked : (now : ℕ) → Sound (clocked K now)
-  pub sound-passing : All Sound (passing K (zeros 8192) inputs)
+pub record Table : Type 0 where
+  pub holds : {xs : List (List (List ℕ))} → AllCome rows xs → xs ≡ map (λ (r : Question × List (List ℕ)). r .1) rows
+  -- the areas that the rows ask of are sound: after any calls on the sample, at any clock, and after the start line and any lines that are calls
+  pub sound-calls : {cs : List Call} {begun ws rs : List ℕ} {r : ℕ} → Started begun r → Run Crosses cs begun ws rs → Sound ws
+  pub sound-clock : {begun entered : List ℕ} {r s : ℕ} (now : ℕ) → Started begun r → Crosses (Enter 1) begun entered s → Sound (set entered 3 (now % 65536))
+  pub sound-lines : {ws : List ℕ} {xs : List (List ℕ)} (ls : List (List ℕ × Call)) → All (λ (l : List ℕ × Call). meaning (l .0) ≡ call (l .1)) ls
+      → Played (bytesOf "start 3 1 1 0 2 5 2" ∷ map (λ (l : List ℕ × Call). l .0) ls) (zeros 8192) ws xs → Sound ws
