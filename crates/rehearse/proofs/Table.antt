@@ -3,18 +3,19 @@
 use Prim.Native.Nat.{ℕ, _%_, _<_}
 use native.Mathlib.Decide.{ℕ-discrete}
 use native.Mathlib.Omega.{arith}
-use mathlib.Core.Path.{_≡_, refl, ap, _∙_, subst}
+use mathlib.Core.Path.{_≡_, refl, ap, _∙_, subst, subst⁻¹}
 use mathlib.Core.Logic.{_≢_}
 use mathlib.Core.List.{List, [], _∷_, map}
 use lib.ListN.{length, getD, set, length-replicate}
 use Rattle.model.specs.declared.Shape.{Shape}
 use Rattle.model.specs.declared.Call.{Call}
 use Rattle.model.specs.declared.Call.the-variants.{Enter, Exit, Wait, Notify}
+use Rattle.model.specs.declared.Answer.{Answer}
 use Rattle.model.specs.Text.{bytesOf}
 use Rattle.model.specs.Queue.{All}
 use Rattle.model.specs.Field.Field.{clock, priority, timer, holder}
 use Rattle.model.specs.Rules.{when, choose, nakedly, decide}
-use Rattle.model.specs.Machine.{State, model, step, start, after, answers}
+use Rattle.model.specs.Machine.{State, model, step, start, refusal, after, answers}
 use Rattle.model.specs.Valid.{Valid}
 use Rattle.model.specs.History.{replies}
 use Rattle.model.specs.Table as tables
@@ -26,20 +27,25 @@ use Rattle.area.specs.Layout.Slot.{Clock}
 use Rattle.area.specs.State.{laid, write}
 use Rattle.area.specs.Holds as areas
 use Rattle.area.specs.Holds.{with}
+use Rattle.area.specs.Reading.{shapeOf, stateOf}
 use Rattle.area.specs.Sound.{Sound}
 use Rattle.area.proofs.Stores.{store}
 use Rattle.area.proofs.Puts.{placed-with, becomes-with}
 use Rattle.start.specs.Start.{startOn}
-use Rattle.monitor.specs.Wire.{answerOf}
+use Rattle.monitor.specs.Calls.{Performs}
+use Rattle.monitor.specs.History.{Run}
+use Rattle.monitor.specs.History.Run.{none as done, then as next}
+use Rattle.monitor.specs.Wire.{numberOf, answerOf}
 use Rattle.monitor.proofs.History.{Keeps, keeps-sound, keeps-state, step-answer, step-keeps, run-answers, run-keeps, start-keeps}
 use Rattle.monitor.proofs.Promises.{long-code, starts-code}
 use Rattle.kernel.specs.Exports.{Begins, Crosses}
+use Rattle.kernel.proofs.Packing.{crosses, begins as conveys}
 use Rattle.kernel.proofs.Demands.{demand2, run-crossed}
 use Rattle.script.specs.Line.{Meaning, meaning}
 use Rattle.script.specs.Line.Meaning.{call, start as begins}
 use Rattle.print.specs.Print.{printed}
 use Rattle.rehearse.specs.Serve.{Serves}
-use Rattle.rehearse.specs.Table.{Question, rows, zeros, Started, Played, Comes, AllCome, Table}
+use Rattle.rehearse.specs.Table.{Question, rows, zeros, Started, Played, Comes, AllCome, must, Table}
 use Rattle.rehearse.specs.Table.Question.{typed, words, room, asked}
 use Rattle.rehearse.specs.Table.Played.{none, then}
 
@@ -145,21 +151,73 @@ module _ {n : Shape} where
   played-keeps [] t K none = K
   played-keeps (l ∷ ls) (e, es) K (then S P) = played-keeps ls es (step-keeps K (served l e S .1 .0)) P
 
-module _ {mid out : List ℕ} (S : Serves (begins sample bytes) (zeros 8192) mid out) where
-  accepts : startOn sample bytes (length (zeros 8192)) ≡ 0
-  accepts = ap (startOn sample bytes) (zeros-long 8192)
+room-8192 : startOn sample bytes (length (zeros 8192)) ≡ 0
+room-8192 = ap (startOn sample bytes) (zeros-long 8192)
 
+module _ {mid out : List ℕ} (S : Serves (begins sample bytes) (zeros 8192) mid out) where
   first-prints : out ≡ printed ((start model sample bytes) .1)
-  first-prints = S .1 .1 ∙ ap printed (S .1 .0 .accepted accepts .0)
+  first-prints = S .1 .1 ∙ ap printed (S .1 .0 .accepted room-8192 .0)
 
   first-keeps : Keeps sample mid ((start model sample bytes) .0)
-  first-keeps = start-keeps (S .1 .0) (starts-code (S .1 .0) ∙ accepts)
+  first-keeps = start-keeps (S .1 .0) (starts-code (S .1 .0) ∙ room-8192)
 
 typed-prints : {ws : List ℕ} {xs : List (List ℕ)} → Played (bytesOf "start 3 1 1 0 2 5 2" ∷ map lineOf eight) (zeros 8192) ws xs → xs ≡ map printed ((start model sample bytes) .1 ∷ replies model sample bytes tables.nine)
 typed-prints (then S P) = λ i. first-prints S i ∷ played-prints eight eight-mean (first-keeps S) P i
 
 lines-sound : {ws : List ℕ} {xs : List (List ℕ)} (ls : List Line) → All Means ls → Played (bytesOf "start 3 1 1 0 2 5 2" ∷ map lineOf ls) (zeros 8192) ws xs → Sound ws
 lines-sound ls m (then S P) = keeps-sound (played-keeps ls m (first-keeps S) P)
+
+-- ---- something comes of every row
+
+begin : (n : Shape) (bs ws : List ℕ) → (new : List ℕ) × (r : ℕ) × Begins n bs ws new r
+begin n bs ws = elim (ℕ-discrete (startOn n bs (length ws)) 0) [
+  | yes e ↦ (write n ((start model n bs) .0) ws, numberOf ((start model n bs) .1), conveys record { refused = λ d. absurd (d e); accepted = λ z. (refl, refl) } refl)
+  | no e ↦ (ws, numberOf (refusal (startOn n bs (length ws))), conveys record { refused = λ d. (refl, refl); accepted = λ z. absurd (e z) } refl)
+]
+
+perform : {ws : List ℕ} → Sound ws → (c : Call) → (new : List ℕ) × (a : Answer) × Performs c ws new a
+perform {ws} S c =
+    (write (shapeOf ws) ((step model (shapeOf ws) (stateOf ws) c) .0) ws, (step model (shapeOf ws) (stateOf ws) c) .1, record { unsound = λ h. absurd (h S); sound = λ z. (refl, refl) })
+
+make : {ws : List ℕ} → Sound ws → (c : Call) → (new : List ℕ) × (r : ℕ) × Crosses c ws new r
+make S c = let p = perform S c in (p .0, numberOf (p .1), crosses (p .2) refl)
+
+make-all : {n : Shape} (cs : List Call) {ws : List ℕ} {s : State model} → Keeps n ws s → (new : List ℕ) × (rs : List ℕ) × Run Crosses cs ws new rs
+make-all [] {ws} K = (ws, [], done)
+make-all (c ∷ cs) K =
+    let m = make (keeps-sound K) c in
+    let t = make-all cs (step-keeps K (demand2 .call (m .2))) in
+    (t .0, m .1 ∷ t .1, next (m .2) (t .2))
+
+play-all : {n : Shape} (ls : List Line) → All Means ls → {ws : List ℕ} {s : State model} → Keeps n ws s → (new : List ℕ) × (xs : List (List ℕ)) × Played (map lineOf ls) ws new xs
+play-all [] t {ws} K = (ws, [], none)
+play-all (l ∷ ls) (e, es) {ws} K =
+    let p = perform (keeps-sound K) (callOf l) in
+    let t = play-all ls es (step-keeps K (p .2)) in
+    (t .0, printed (p .1) ∷ t .1, then (subst⁻¹ (λ (m : Meaning). Serves m ws (p .0) (printed (p .1))) e (p .1, (p .2, refl))) (t .2))
+
+any : (q : Question) → (xs : List (List ℕ)) × Comes q xs
+any typed =
+    let w = write sample ((start model sample bytes) .0) (zeros 8192) in
+    let S : Serves (begins sample bytes) (zeros 8192) w (printed ((start model sample bytes) .1)) = ((start model sample bytes) .1, (record { refused = λ d. absurd (d room-8192); accepted = λ z. (refl, refl) }, refl)) in
+    let t = play-all eight eight-mean (first-keeps S) in
+    (printed ((start model sample bytes) .1) ∷ t .1, (t .0, then S (t .2)))
+any words = let b = begin sample bytes (zeros (size sample)) in (b .0 ∷ [], (b .0, b .1, b .2, refl))
+any (room k) = let b = begin sample bytes (zeros k) in (one (answerOf (b .1) .code), (b .0, b .1, b .2, refl))
+any (asked (code n bs)) = let b = begin n bs (zeros (size n)) in (one (answerOf (b .1) .code), (b .0, b .1, b .2, refl))
+any (asked (lines cs)) =
+    let b = begin sample bytes (zeros (size sample)) in
+    let t = make-all cs (started-keeps (b .2)) in
+    (map line (answerOf (b .1) ∷ map answerOf (t .1)), (b .0, t .0, b .1, t .1, b .2, t .2, refl))
+any (asked (stores now t)) =
+    let b = begin sample bytes (zeros (size sample)) in
+    let e = make (keeps-sound (started-keeps (b .2))) (Enter 1) in
+    let w = make (keeps-sound (clocked-keeps (b .2) now (e .2))) (Wait 1 1 (record { 0 = t })) in
+    (one (stateOf (w .0) .fields (timer 2)), (b .0, e .0, w .0, b .1, e .1, w .1, b .2, e .2, w .2, refl))
+
+all-any : (rs : List (Question × List (List ℕ))) → (xs : List (List (List ℕ))) × AllCome rs xs
+all-any [] = ([], tt)
+all-any (r ∷ rs) = let x = any (r .0) in let xs = all-any rs in (x .0 ∷ xs .0, (x .1, xs .1))
 
 -- ---- the table
 
@@ -184,13 +242,17 @@ all-told : (rs : List (Question × List (List ℕ))) (xs : List (List (List ℕ)
 all-told [] [] c = refl
 all-told (r ∷ rs) (x ∷ xs) c = λ i. comes-told (r .0) x (c .0) i ∷ all-told rs xs (c .1) i
 
-computed : map (λ (r : Question × List (List ℕ)). told (r .0)) rows ≡ map (λ (r : Question × List (List ℕ)). r .1) rows
+computed : map (λ (r : Question × List (List ℕ)). told (r .0)) rows ≡ must
 unfolding step decide when choose nakedly write slots zeros ℕ-discrete
 computed = refl
 
+alone-comes : (xs : List (List (List ℕ))) → AllCome rows xs → xs ≡ must
+alone-comes xs c = all-told rows xs c ∙ computed
+
 pub whole-table : Table
 whole-table = record {
-  holds = λ {xs} c. all-told rows xs c ∙ computed;
+  comes = let a = all-any rows in subst (AllCome rows) (alone-comes (a .0) (a .1)) (a .1);
+  alone = λ {xs} c. alone-comes xs c;
   sound-calls = λ B R. keeps-sound (run-keeps ((start model sample bytes) .0) (started-keeps B) (run-crossed R));
   sound-clock = λ now B C. keeps-sound (clocked-keeps B now C);
   sound-lines = lines-sound;

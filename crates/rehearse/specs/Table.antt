@@ -1,5 +1,6 @@
--- 01's whole table, of what C calls and of Rehearse: whatever comes of its rows from exports and lines that keep their promises is what must
--- come. All rows are one fact, and each area that they ask of is sound: `whole-table` (`crates/rehearse/proofs/Table.antt`). Assumes nothing.
+-- 01's whole table, of what C calls and of Rehearse: from exports and lines that keep their promises that comes of its rows which must come, and
+-- nothing else. All rows are one fact, and each area that they ask of is sound: `whole-table` (`crates/rehearse/proofs/Table.antt`). Assumes
+-- nothing.
 use Prim.Native.Nat.{ℕ, _%_}
 use Prim.Native.String.{String}
 use mathlib.Core.Path.{_≡_}
@@ -96,8 +97,14 @@ AllCome (r ∷ rs) (x ∷ xs) = Comes (r .0) x × AllCome rs xs
 
 -- ---- the table
 
+-- what must come of each row
+abbrev pub must : List (List (List ℕ))
+must = map (λ (r : Question × List (List ℕ)). r .1) rows
+
 pub record Table : Type 0 where
-  pub holds : {xs : List (List (List ℕ))} → AllCome rows xs → xs ≡ map (λ (r : Question × List (List ℕ)). r .1) rows
+  -- that comes, and nothing else
+  pub comes : AllCome rows must
+  pub alone : {xs : List (List (List ℕ))} → AllCome rows xs → xs ≡ must
   -- the areas that the rows ask of are sound: after any calls on the sample, at any clock, and after the start line and any lines that are calls
   pub sound-calls : {cs : List Call} {begun ws rs : List ℕ} {r : ℕ} → Started begun r → Run Crosses cs begun ws rs → Sound ws
   pub sound-clock : {begun entered : List ℕ} {r s : ℕ} (now : ℕ) → Started begun r → Crosses (Enter 1) begun entered s → Sound (set entered 3 (now % 65536))
