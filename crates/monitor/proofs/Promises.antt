@@ -100,18 +100,18 @@ starts-spares {n} {bytes} {old} {new} {a} S h = go (eqb-case (startOn n bytes (l
 -- ---- List, by its cases
 
 -- what List told of a sound area: no such queue, a buffer too short, or the whole queue
-pub data Told (n : Shape) (s : State model) (kind number : ℕ) (old new : List ℕ) (l : Listed) : Type 0 where
-  refused : (k : ℕ) → k < 8 → Unlisted old new l k → Told n s kind number old new l
-  whole : Written old new l (s .queues (queueBy kind number)) → Told n s kind number old new l
+pub data Outcome (n : Shape) (s : State model) (kind number : ℕ) (old new : List ℕ) (l : Listed) : Type 0 where
+  refused : (k : ℕ) → k < 8 → Unlisted old new l k → Outcome n s kind number old new l
+  whole : Written old new l (s .queues (queueBy kind number)) → Outcome n s kind number old new l
 
 unlisted-one : {old new other : List ℕ} {l m : Listed} {k : ℕ} → Unlisted old new l k → Unlisted old other m k → (l ≡ m) × (new ≡ other)
 unlisted-one u v = (λ i. record { code = (u .code ∙ sym (v .code)) i; count = (u .count ∙ sym (v .count)) i }, u .buffer ∙ sym (v .buffer))
 
 module _ {n : Shape} {s : State model} {kind number : ℕ} {old : List ℕ} where
-  pub lists-told : {new : List ℕ} {l : Listed} → Lists kind number n s old new l → Told n s kind number old new l
+  pub lists-told : {new : List ℕ} {l : Listed} → Lists kind number n s old new l → Outcome n s kind number old new l
   lists-told {new} {l} L = go (isQueue n kind number) refl (decLt (length old) (length (s .queues (queueBy kind number))))
     where
-      go : (b : Bool) → isQueue n kind number ≡ b → Dec (length old < length (s .queues (queueBy kind number))) → Told n s kind number old new l
+      go : (b : Bool) → isQueue n kind number ≡ b → Dec (length old < length (s .queues (queueBy kind number))) → Outcome n s kind number old new l
       go false e d = refused 7 (omega arith) (L .missing e)
       go true e (yes h) = refused 5 (omega arith) (L .short e h)
       go true e (no h) = whole (L .whole e (omega arith))
@@ -133,7 +133,7 @@ lists-spares {kind} {number} {ws} {old} {new} {l} L h =
     let r = settle (Dec·and (ℕ-discrete (l .count) 0) (lists? new old)) (λ S. go (lists-told (L .sound S))) (λ u. let p = L .unsound u in (p .count, p .buffer)) in
     record { code = refl; count = r .0; buffer = r .1 }
   where
-    go : Told (shapeOf ws) (stateOf ws) kind number old new l → (l .count ≡ 0) × (new ≡ old)
+    go : Outcome (shapeOf ws) (stateOf ws) kind number old new l → (l .count ≡ 0) × (new ≡ old)
     go (refused k b p) = (p .count, p .buffer)
     go (whole p) = absurd (h (p .code))
 
@@ -262,7 +262,7 @@ starts-fits {n} {bytes} {old} {a = a} S =
 pub lists-fits : {kind number : ℕ} {ws old new : List ℕ} {l : Listed} → ListsOn kind number ws old new l → Fit 10 (listFields l)
 lists-fits {kind} {number} {ws} {old} {new} {l} L = settle (fit? 10 (listFields l)) (λ S. go S (lists-told (L .sound S))) (λ h. let u = L .unsound h in (omega arith, (omega arith, tt)))
   where
-    go : Sound ws → Told (shapeOf ws) (stateOf ws) kind number old new l → Fit 10 (listFields l)
+    go : Sound ws → Outcome (shapeOf ws) (stateOf ws) kind number old new l → Fit 10 (listFields l)
     go S (refused k b u) = (omega (arith, u .code), (omega (arith, u .count), tt))
     go S (whole u) =
         let c = counts-in (shapeOf ws) (S .valid .placed .counts) in
