@@ -31,7 +31,7 @@ target/%: examples/%.c lib include/kernel.h
 run: rehearse
 	target/bin/rehearse < $(SCRIPT) | paste $(SCRIPT) -
 
-# rehearse first: it takes all crates but kernel, and both cores; the library then proves kernel alone
+# rehearse first: it takes every crate, and both cores
 test: rehearse
 	$(MAKE) target/nine target/probe
 	target/nine | diff examples/nine.txt -

@@ -15,7 +15,7 @@
  * word of the area beyond its size (KERNEL_AREA_WORDS) and writes none. Calls on one area must not run at the same time: mask
  * interrupts around a call, or make every call from one place.
  *
- * A call takes less than 640 bytes of stack (520 measured at most, on x86-64). */
+ * A call takes less than 640 bytes of stack (536 measured at most, on x86-64). */
 #ifndef KERNEL_H
 #define KERNEL_H
 

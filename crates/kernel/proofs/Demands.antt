@@ -34,8 +34,8 @@ listed : {kind number : ℕ} {ws old new : List ℕ} {r : ℕ} → Writes kind n
 listed {kind} {number} {ws} {old} {new} W = subst (λ (l : Listed). ListsOn kind number ws old new l) (read-listed (W .carries)) (W .keeps)
 
 -- numbers of the same answer are the same
-same-number : {A : Type 0} {w : ℕ} {fieldsOf : A → List ℕ} {P Q : A → Type 0} {r s : ℕ} (C : Conveys w fieldsOf P r) (D : Conveys w fieldsOf Q s) → C .answer ≡ D .answer → r ≡ s
-same-number {w = w} {fieldsOf = fieldsOf} C D e = C .carries .number ∙ ap (λ a. packed w (fieldsOf a)) e ∙ sym (D .carries .number)
+same-number : {A : Type 0} {w : ℕ} {fields : A → List ℕ} {P Q : A → Type 0} {r s : ℕ} (C : Conveys w fields P r) (D : Conveys w fields Q s) → C .answer ≡ D .answer → r ≡ s
+same-number {w = w} {fields = fields} C D e = C .carries .number ∙ ap (λ a. packed w (fields a)) e ∙ sym (D .carries .number)
 
 not-sound : {ws : List ℕ} {r : ℕ} → Judges ws r → (Sound ws → ⊥) → r ≡ 0
 not-sound {r = r} J u = elim (ℕ-discrete r 1) [

@@ -7,24 +7,25 @@ use mathlib.Core.List.{List}
 use Rattle.model.specs.declared.Shape.{Shape}
 use Rattle.model.specs.declared.Call.{Call}
 use Rattle.model.specs.declared.Answer.{Answer}
+use Rattle.model.specs.Machine.{fieldsOf}
 use Rattle.area.specs.Sound.{Sound}
 use Rattle.start.specs.Start.{Starts}
 use Rattle.queues.specs.declared.listing.Listed.{Listed}
 use Rattle.monitor.specs.Calls.{Performs, ListsOn}
-use Rattle.monitor.specs.Wire.{packed, fields, listFields, numberOf}
+use Rattle.monitor.specs.Wire.{packed, listFields, numberOf}
 use Rattle.monitor.proofs.Wire.{Fit, carries}
 use Rattle.monitor.proofs.Promises.{performs-fits, starts-fits, lists-fits}
 use Rattle.kernel.specs.Exports.{Conveys, Crosses, Begins, Writes, Judges}
 
 -- an export's contract, whatever the call: from what is promised of the answer, and the answer's number
-conveys : {A : Type 0} {w r : ℕ} (fieldsOf : A → List ℕ) {promised : A → Type 0} (a : A) → promised a → r ≡ packed w (fieldsOf a) → Fit w (fieldsOf a) → Conveys w fieldsOf promised r
-conveys {w = w} fieldsOf a p e h = record { answer = a; keeps = p; carries = carries w (fieldsOf a) e h }
+conveys : {A : Type 0} {w r : ℕ} (fields : A → List ℕ) {promised : A → Type 0} (a : A) → promised a → r ≡ packed w (fields a) → Fit w (fields a) → Conveys w fields promised r
+conveys {w = w} fields a p e h = record { answer = a; keeps = p; carries = carries w (fields a) e h }
 
 pub crosses : {c : Call} {old new : List ℕ} {a : Answer} {r : ℕ} → Performs c old new a → r ≡ numberOf a → Crosses c old new r
-crosses {a = a} P e = conveys fields a P e (performs-fits P)
+crosses {a = a} P e = conveys fieldsOf a P e (performs-fits P)
 
 pub begins : {n : Shape} {bytes old new : List ℕ} {a : Answer} {r : ℕ} → Starts n bytes old new a → r ≡ numberOf a → Begins n bytes old new r
-begins {a = a} S e = conveys fields a S e (starts-fits S)
+begins {a = a} S e = conveys fieldsOf a S e (starts-fits S)
 
 pub writes : {kind number : ℕ} {ws old new : List ℕ} {l : Listed} {r : ℕ} → ListsOn kind number ws old new l → r ≡ packed 10 (listFields l) → Writes kind number ws old new r
 writes {l = l} L e = conveys listFields l L e (lists-fits L)

@@ -44,7 +44,8 @@ pub record Demand2 : Type 0 where
 abbrev pub Demand3 : Type 0
 Demand3 = history.Demand3 answerOf Begins Crosses
 
--- The words beyond an area's size are never changed and never read: areas that agree below it are answered alike, and agree afterwards
+-- The words beyond an area's size are never changed and never read: areas that agree below it are answered alike, and agree afterwards. Start
+-- reads no word that it finds: `overwrites` above
 pub record Beyond : Type 0 where
   pub kept-call : {c : Call} {old new : List ℕ} {r : ℕ} → Crosses c old new r → drop (size (shapeOf old)) new ≡ drop (size (shapeOf old)) old
   pub kept-start : {n : Shape} {bytes old new : List ℕ} {r : ℕ} → Begins n bytes old new r → drop (size n) new ≡ drop (size n) old

@@ -5,24 +5,25 @@ use mathlib.Core.Logic.{_↔_}
 use mathlib.Core.List.{List}
 use Rattle.model.specs.declared.Shape.{Shape}
 use Rattle.model.specs.declared.Call.{Call}
+use Rattle.model.specs.Machine.{fieldsOf}
 use Rattle.area.specs.Sound.{Sound}
 use Rattle.start.specs.Start.{Starts}
 use Rattle.monitor.specs.Calls.{Performs, ListsOn}
-use Rattle.monitor.specs.Wire.{Carries, fields, listFields}
+use Rattle.monitor.specs.Wire.{Carries, listFields}
 
 -- r carries an answer as promised: it is the number of the answer's fields, w bits each, and every field comes back out of it
-pub record Conveys {A : Type 0} (w : ℕ) (fieldsOf : A → List ℕ) (promised : A → Type 0) (r : ℕ) : Type 0 where
+pub record Conveys {A : Type 0} (w : ℕ) (fields : A → List ℕ) (promised : A → Type 0) (r : ℕ) : Type 0 where
   pub answer : A
   pub keeps : promised answer
-  pub carries : Carries w r (fieldsOf answer)
+  pub carries : Carries w r (fields answer)
 
 -- one of the nine: an unsound area is refused by 1 and left as it is; a sound one gives the rule's answer and words
 abbrev pub Crosses : Call → List ℕ → List ℕ → ℕ → Type 0
-Crosses c old new r = Conveys 10 fields (Performs c old new) r
+Crosses c old new r = Conveys 10 fieldsOf (Performs c old new) r
 
 -- Start: refused, it changes nothing; accepted, it gives the started state's answer and words
 abbrev pub Begins : Shape → List ℕ → List ℕ → List ℕ → ℕ → Type 0
-Begins n bytes old new r = Conveys 10 fields (Starts n bytes old new) r
+Begins n bytes old new r = Conveys 10 fieldsOf (Starts n bytes old new) r
 
 -- List: refused by 1, 7, 5 in this order, the buffer is as it was; else the queue stands at its front, and the rest is as it was
 abbrev pub Writes : ℕ → ℕ → List ℕ → List ℕ → List ℕ → ℕ → Type 0

@@ -11,9 +11,9 @@ use Rattle.model.specs.Queue.Queue.{ready, park, lock, condition}
 use Rattle.model.specs.Field.{Field, put, priorities}
 use Rattle.model.specs.Field.Field.{clock, running, priority, timer, failed, holder, wakeup}
 use Rattle.model.specs.Rules.{when, choose, nakedly, decide, startCode}
-use Rattle.model.specs.Machine.{Machine, State, model, start, step, after, answers}
+use Rattle.model.specs.Machine.{Machine, State, model, fieldsOf, start, step, after, answers}
 use Rattle.model.specs.Ledger.{ledger, reading}
-use Rattle.model.specs.Table.{Row, Holds, line}
+use Rattle.model.specs.Table.{Row, Holds}
 
 -- ---- a script: calls with their answers; then queues and fields as they must be left
 
@@ -36,7 +36,7 @@ playFrom M n s turns qs fs =
     let calls = map (λ (t : Turn). t .0) turns in
     let left = after M n s calls in
     record {
-      come = map line (answers M n s calls) ++ (map (λ (q : Queue × List ℕ). M .read (priorities (left .fields)) (left .queues) (q .0)) qs ++ (map (λ (f : Field × ℕ). left .fields (f .0)) fs ∷ []));
+      come = map fieldsOf (answers M n s calls) ++ (map (λ (q : Queue × List ℕ). M .read (priorities (left .fields)) (left .queues) (q .0)) qs ++ (map (λ (f : Field × ℕ). left .fields (f .0)) fs ∷ []));
       must = map (λ (t : Turn). t .1) turns ++ (map (λ (q : Queue × List ℕ). q .1) qs ++ (map (λ (f : Field × ℕ). f .1) fs ∷ []));
     }
 

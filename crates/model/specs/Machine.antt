@@ -31,6 +31,11 @@ moves M pr q (m ∷ ms) = moves M pr (M .moved pr q m) ms
 
 -- ---- what all calls share
 
+-- an answer's fields in their order
+abbrev pub fieldsOf : Answer → List ℕ
+fieldsOf a = a .code ∷ a .running ∷ a .retry ∷ a .mark ∷ a .moved ∷ []
+
+-- a code, and zeros beside it
 abbrev pub refusal : ℕ → Answer
 refusal k = record { code = k; running = 0; retry = 0; mark = 0; moved = 0 }
 

@@ -1,5 +1,5 @@
 -- 01's table: what a kernel is asked, row by row, and what must come; and that it comes from the model and the ledger, by computation.
--- The rows that speak of words stand with the words. Assumes nothing.
+-- The rows that speak of words and of lines stand in `crates/rehearse/specs/Table.antt`. Assumes nothing.
 use Prim.Native.Nat.{ℕ, _%_}
 use native.Mathlib.Decide.{ℕ-discrete}
 use mathlib.Core.Path.{_≡_, refl}
@@ -8,11 +8,10 @@ use lib.ListN.{replicate}
 use Rattle.model.specs.declared.Shape.{Shape}
 use Rattle.model.specs.declared.Call.{Call}
 use Rattle.model.specs.declared.Call.the-variants.{Enter, Exit, Wait, Notify}
-use Rattle.model.specs.declared.Answer.{Answer}
 use Rattle.model.specs.Field.{put}
 use Rattle.model.specs.Field.Field.{clock, timer}
 use Rattle.model.specs.Rules.{when, choose, nakedly, decide, startCode}
-use Rattle.model.specs.Machine.{Machine, State, model, start, step}
+use Rattle.model.specs.Machine.{Machine, State, model, fieldsOf, start, step}
 use Rattle.model.specs.Ledger.{ledger, reading}
 use Rattle.model.specs.History.{end, replies}
 
@@ -30,10 +29,6 @@ Holds rows = map (λ (r : Row). r .come) rows ≡ map (λ (r : Row). r .must) ro
 -- one number
 abbrev pub one : ℕ → List (List ℕ)
 one x = (x ∷ []) ∷ []
-
--- the five fields of an answer in their order
-abbrev pub line : Answer → List ℕ
-line a = a .code ∷ a .running ∷ a .retry ∷ a .mark ∷ a .moved ∷ []
 
 -- ---- what is asked
 
@@ -91,7 +86,7 @@ entered M now =
 
 abbrev pub told : Machine → Question → List (List ℕ)
 told M (code n bs) = one (startCode n bs)
-told M (lines cs) = map line ((start M sample bytes) .1 ∷ replies M sample bytes cs)
+told M (lines cs) = map fieldsOf ((start M sample bytes) .1 ∷ replies M sample bytes cs)
 told M (stores now t) = one ((step M sample (entered M now) (Wait 1 1 (record { 0 = t }))) .0 .fields (timer 2))
 
 abbrev pub rowsOf : Machine → List Row

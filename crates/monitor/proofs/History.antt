@@ -93,14 +93,17 @@ start-accepted n bytes words e = go (eqb-case (startCode n bytes) 0) (ltb words 
     go (holds d z) false k = (d, not-below words (size n) k)
     go (holds d z) true k = let w : _≡_ {A = ℕ} 5 0 = rw (z, k) at e in let y : ⊥ = omega arith in absurd y
 
+-- its answer has its code
+pub starts-code : {n : Shape} {bytes old new : List ℕ} {a : Answer} → Starts n bytes old new a → a .code ≡ startOn n bytes (length old)
+starts-code {n} {bytes} {old} {new} {a} S = go (eqb-case (startOn n bytes (length old)) 0)
+  where
+    go : EqCase (startOn n bytes (length old)) 0 → a .code ≡ startOn n bytes (length old)
+    go (holds d e) = ap {A = Answer} (λ b. b .code) (S .accepted d .0) ∙ sym d
+    go (fails d e) = ap {A = Answer} (λ b. b .code) (S .refused d .0)
+
 module _ {n : Shape} {bytes old begun : List ℕ} {a : Answer} (S : Starts n bytes old begun a) (z : a .code ≡ 0) where
-  -- its code is 0 only where it is accepted
   start-passes : startOn n bytes (length old) ≡ 0
-  start-passes = go (eqb-case (startOn n bytes (length old)) 0)
-    where
-      go : EqCase (startOn n bytes (length old)) 0 → startOn n bytes (length old) ≡ 0
-      go (holds d e) = d
-      go (fails d e) = absurd (d (sym (ap {A = Answer} (λ b. b .code) (S .refused d .0)) ∙ z))
+  start-passes = sym (starts-code S) ∙ z
 
   fair : (startCode n bytes ≡ 0) × (size n ≤ length old)
   fair = start-accepted n bytes (length old) start-passes

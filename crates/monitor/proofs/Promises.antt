@@ -15,7 +15,7 @@ use Rattle.model.specs.declared.Shape.{Shape}
 use Rattle.model.specs.declared.Call.{Call}
 use Rattle.model.specs.declared.Answer.{Answer}
 use Rattle.model.specs.Rules.{counted, anyAbove, startCode}
-use Rattle.model.specs.Machine.{State, model, step, start, refusal}
+use Rattle.model.specs.Machine.{State, model, fieldsOf, step, start, refusal}
 use Rattle.model.proofs.Tests.{EqCase, holds, fails, eqb-case}
 use Rattle.model.proofs.Rules.{refused-stays}
 use Rattle.model.proofs.Kept.{Small, step-small, start-small, start-valid}
@@ -31,7 +31,7 @@ use Rattle.start.specs.Start.{startOn, Starts}
 use Rattle.queues.specs.declared.listing.Listed.{Listed}
 use Rattle.queues.specs.Listing.{queueBy, isQueue, Unlisted, Written, Lists}
 use Rattle.monitor.specs.Calls.{Performs, ListsOn, Spares}
-use Rattle.monitor.specs.Wire.{unpacked, Carries, fields, listFields, answerOf, listedOf}
+use Rattle.monitor.specs.Wire.{unpacked, Carries, listFields, answerOf, listedOf}
 use Rattle.monitor.proofs.Wire.{Fit}
 use Rattle.monitor.proofs.History.{start-accepted}
 
@@ -53,16 +53,16 @@ lists? (x ∷ xs) (y ∷ ys) = elim (Dec·and (ℕ-discrete x y) (lists? xs ys))
 ]
 
 -- an answer is its fields
-answer-is : {a b : Answer} → fields a ≡ fields b → a ≡ b
+answer-is : {a b : Answer} → fieldsOf a ≡ fieldsOf b → a ≡ b
 answer-is e = ap (λ (l : List ℕ). record { code = getD l 0 0; running = getD l 1 0; retry = getD l 2 0; mark = getD l 3 0; moved = getD l 4 0 }) e
 
 listed-is : {a b : Listed} → listFields a ≡ listFields b → a ≡ b
 listed-is e = ap (λ (l : List ℕ). record { code = getD l 0 0; count = getD l 1 0 }) e
 
 answers? : (a b : Answer) → Dec (a ≡ b)
-answers? a b = elim (lists? (fields a) (fields b)) [
+answers? a b = elim (lists? (fieldsOf a) (fieldsOf b)) [
   | yes e ↦ yes (answer-is e)
-  | no n ↦ no (λ e. n (ap fields e))
+  | no n ↦ no (λ e. n (ap fieldsOf e))
 ]
 
 listed? : (a b : Listed) → Dec (a ≡ b)
@@ -201,14 +201,6 @@ long-code n bytes words h = rw (le-ltb words (size n) h) (go (startCode n bytes)
       | no e ↦ rw (ne-eqb k 0 e)
     ]
 
--- its answer has that code
-pub starts-code : {n : Shape} {bytes old new : List ℕ} {a : Answer} → Starts n bytes old new a → a .code ≡ startOn n bytes (length old)
-starts-code {n} {bytes} {old} {new} {a} S = go (eqb-case (startOn n bytes (length old)) 0)
-  where
-    go : EqCase (startOn n bytes (length old)) 0 → a .code ≡ startOn n bytes (length old)
-    go (holds d e) = ap {A = Answer} (λ b. b .code) (S .accepted d .0) ∙ sym d
-    go (fails d e) = ap {A = Answer} (λ b. b .code) (S .refused d .0)
-
 -- and it reads none of the words that it finds
 module _ {n : Shape} {bytes a b a′ b′ : List ℕ} {x y : Answer} (la : size n ≤ length a) (lb : size n ≤ length b) (P : Starts n bytes a a′ x) (Q : Starts n bytes b b′ y) where
   pub starts-alike : (x ≡ y) × (x .code ≡ 0 → take (size n) a′ ≡ take (size n) b′)
@@ -231,15 +223,15 @@ fit? : (w : ℕ) (xs : List ℕ) → Dec (Fit w xs)
 fit? w [] = yes tt
 fit? w (x ∷ xs) = Dec·and (decLt x (2 ^ w)) (fit? w xs)
 
-small-fits : (n : Shape) (a : Answer) → counted n ≡ true → Small n a → Fit 10 (fields a)
+small-fits : (n : Shape) (a : Answer) → counted n ≡ true → Small n a → Fit 10 (fieldsOf a)
 small-fits n a k s = let h = counts-in n k in (omega arith, (omega arith, (omega arith, (omega arith, (omega arith, tt)))))
 
-refusal-fits : (k : ℕ) → k < 1024 → Fit 10 (fields (refusal k))
+refusal-fits : (k : ℕ) → k < 1024 → Fit 10 (fieldsOf (refusal k))
 refusal-fits k h = (h, (omega arith, (omega arith, (omega arith, (omega arith, tt)))))
 
-pub performs-fits : {c : Call} {old new : List ℕ} {a : Answer} → Performs c old new a → Fit 10 (fields a)
+pub performs-fits : {c : Call} {old new : List ℕ} {a : Answer} → Performs c old new a → Fit 10 (fieldsOf a)
 performs-fits {c} {old} {a = a} P =
-    settle (fit? 10 (fields a))
+    settle (fit? 10 (fieldsOf a))
     (λ S. rw (P .sound S .0) (small-fits (shapeOf old) _ (S .valid .placed .counts) (step-small (shapeOf old) (stateOf old) c (S .valid))))
     (λ h. rw (P .unsound h .0) (refusal-fits 1 (omega arith)))
 
@@ -253,9 +245,9 @@ start-below n bytes words =
     (cond-below (not (counted n)) (omega arith)
     (cond-below (not (eqb (length bytes) (n .processes))) (omega arith) (cond-below (anyAbove 7 bytes) (omega arith) (omega arith))))
 
-pub starts-fits : {n : Shape} {bytes old new : List ℕ} {a : Answer} → Starts n bytes old new a → Fit 10 (fields a)
+pub starts-fits : {n : Shape} {bytes old new : List ℕ} {a : Answer} → Starts n bytes old new a → Fit 10 (fieldsOf a)
 starts-fits {n} {bytes} {old} {a = a} S =
-    settle (fit? 10 (fields a))
+    settle (fit? 10 (fieldsOf a))
     (λ h. let k = start-accepted n bytes (length old) h .0 in rw (S .accepted h .0) (small-fits n _ (start-valid n bytes k .placed .counts) (start-small n bytes k)))
     (λ h. rw (S .refused h .0) (refusal-fits _ (start-below n bytes (length old))))
 
@@ -271,7 +263,7 @@ lists-fits {kind} {number} {ws} {old} {new} {l} L = settle (fit? 10 (listFields 
 
 -- ---- an answer comes back out of its number
 
-bits-of-five : (r : ℕ) → unpacked 10 5 r ≡ fields (answerOf r)
+bits-of-five : (r : ℕ) → unpacked 10 5 r ≡ fieldsOf (answerOf r)
 unfolding unpacked
 bits-of-five r = simp div-div-eq-div-mul
 
@@ -279,7 +271,7 @@ bits-of-two : (r : ℕ) → unpacked 10 2 r ≡ listFields (listedOf r)
 unfolding unpacked
 bits-of-two r = refl
 
-pub read-answer : {r : ℕ} {a : Answer} → Carries 10 r (fields a) → a ≡ answerOf r
+pub read-answer : {r : ℕ} {a : Answer} → Carries 10 r (fieldsOf a) → a ≡ answerOf r
 read-answer {r} C = answer-is (sym (C .back) ∙ bits-of-five r)
 
 pub read-listed : {r : ℕ} {l : Listed} → Carries 10 r (listFields l) → l ≡ listedOf r

@@ -12,12 +12,13 @@ use lib.Seq.{take-append-seam, drop-cons, append-snoc, set-append-seam, getD-dro
 use Rattle.model.specs.declared.Call.{Call}
 use Rattle.model.specs.declared.Call.the-variants.{Enter, Exit, Wait, Notify, Broadcast, Naked, Requeue, SetPriority, Tick}
 use Rattle.model.specs.declared.Answer.{Answer}
+use Rattle.model.specs.Machine.{fieldsOf}
 use Rattle.monitor.specs.declared.replay.Record.{Record}
 use Rattle.monitor.specs.declared.replay.Record.the-variants.{Made, Malformed}
 use Rattle.monitor.specs.Calls.{Performs}
 use Rattle.monitor.specs.History.{Run, Ends}
 use Rattle.monitor.specs.History.Run.{none, then}
-use Rattle.monitor.specs.Wire.{fields, numberOf, answerOf}
+use Rattle.monitor.specs.Wire.{numberOf, answerOf}
 use Rattle.monitor.specs.Replay.{none2, none3, pick, made, operation, recorded, firstOf, follow, logged, Served, Replayed, LogDemand3}
 use Rattle.monitor.proofs.Wire.{carries}
 use Rattle.monitor.proofs.History.{run-ends}
@@ -242,7 +243,7 @@ module _ {log old now outOld outNow : List ℕ} {k : ℕ} (D : Doing log old now
 -- the answers come back out of their numbers
 run-read : {cs : List Call} {old new : List ℕ} {rs : List Answer} → Run Performs cs old new rs → rs ≡ map answerOf (map numberOf rs)
 run-read none = refl
-run-read (then {a = a} P R) = λ i. read-answer (carries 10 (fields a) refl (performs-fits P)) i ∷ run-read R i
+run-read (then {a = a} P R) = λ i. read-answer (carries 10 (fieldsOf a) refl (performs-fits P)) i ∷ run-read R i
 
 -- they stand at the front of what is written
 front : {log old new out outNew : List ℕ} {r : ℕ} (R : Replayed log old new out outNew r) → R .answers ≡ map answerOf (take r outNew)

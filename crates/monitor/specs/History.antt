@@ -19,10 +19,10 @@ use Rattle.area.specs.Layout.Part.{locked, waiting}
 use Rattle.area.specs.Reading.{shapeOf, partsOf, stateOf}
 use Rattle.area.specs.Sound.{Sound}
 
--- the calls made one after the other, each as it is promised: from one area to another, with these answers
-pub data Run {A : Type 0} (Promised : Call → List ℕ → List ℕ → A → Type 0) : List Call → List ℕ → List ℕ → List A → Type 0 where
+-- calls, or what else is promised of an area, made one after the other, each as it is promised: from one area to another, with these answers
+pub data Run {C A : Type 0} (Promised : C → List ℕ → List ℕ → A → Type 0) : List C → List ℕ → List ℕ → List A → Type 0 where
   none : {ws : List ℕ} → Run Promised [] ws ws []
-  then : {c : Call} {cs : List Call} {old mid new : List ℕ} {a : A} {rs : List A} → Promised c old mid a → Run Promised cs mid new rs → Run Promised (c ∷ cs) old new (a ∷ rs)
+  then : {c : C} {cs : List C} {old mid new : List ℕ} {a : A} {rs : List A} → Promised c old mid a → Run Promised cs mid new rs → Run Promised (c ∷ cs) old new (a ∷ rs)
 
 -- Start's answer, the answers rs to the calls cs and the area ws after them, against the arrival ledger that was fed the same
 pub record Ends (n : Shape) (bytes : List ℕ) (started : Answer) (cs : List Call) (rs : List Answer) (ws : List ℕ) : Type 0 where
@@ -47,8 +47,8 @@ pub record Ends (n : Shape) (bytes : List ℕ) (started : Answer) (cs : List Cal
   -- for each lock entries minus leavings is 0 or 1, and 1 exactly when it is locked
   pub entries : (l : ℕ) → tally (isEntry l) cs rs ≡ tally (isLeaving l) cs rs + partsOf n ws (locked l)
 
--- demand 3, of a kernel of which Start and the calls promise this, and whose answers read so: from an accepted Start, over every list of the
--- calls, whatever their numbers
+-- demand 3 of a kernel whose Start promises `Begun`, whose calls promise `Promised`, and whose answers are read by `read`: from an accepted
+-- Start, over every list of the calls, whatever their numbers
 pub record Demand3 {A : Type 0} (read : A → Answer) (Begun : Shape → List ℕ → List ℕ → List ℕ → A → Type 0) (Promised : Call → List ℕ → List ℕ → A → Type 0) : Type 0 where
   pub ends : {n : Shape} {bytes old begun new : List ℕ} {a : A} {cs : List Call} {rs : List A}
       → Begun n bytes old begun a → read a .code ≡ 0 → Run Promised cs begun new rs → Ends n bytes (read a) cs (map read rs) new

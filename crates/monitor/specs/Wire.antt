@@ -4,6 +4,7 @@ use mathlib.Core.Path.{_≡_}
 use mathlib.Core.List.{List, [], _∷_}
 use lib.ListN.{length}
 use Rattle.model.specs.declared.Answer.{Answer}
+use Rattle.model.specs.Machine.{fieldsOf}
 use Rattle.queues.specs.declared.listing.Listed.{Listed}
 
 -- the number that has w bits of each field, the first lowest
@@ -23,13 +24,9 @@ pub record Carries (w r : ℕ) (xs : List ℕ) : Type 0 where
 
 -- ---- what crosses
 
--- an answer's five
-abbrev pub fields : Answer → List ℕ
-fields a = a .code ∷ a .running ∷ a .retry ∷ a .mark ∷ a .moved ∷ []
-
 -- an answer's number: ten bits a field, code lowest
 abbrev pub numberOf : Answer → ℕ
-numberOf a = packed 10 (fields a)
+numberOf a = packed 10 (fieldsOf a)
 
 -- List's two
 abbrev pub listFields : Listed → List ℕ

@@ -4,7 +4,7 @@ use mathlib.Core.List.{[], _∷_, map}
 use Rattle.model.specs.Text.{bytesOf}
 use Rattle.print.specs.Print.{decimal, printed}
 
--- the answer to the sixth of 01's nine lines, and the widest answer
+-- the answer to the seventh of 01's nine lines, and one with fields of five to two digits
 answers : map printed (record { code = 0; running = 2; retry = 1; mark = 0; moved = 1 } ∷ record { code = 65535; running = 10000; retry = 9999; mark = 100; moved = 10 } ∷ [])
     ≡ map bytesOf ("0 2 1 0 1\n" ∷ "65535 10000 9999 100 10\n" ∷ [])
 answers = refl

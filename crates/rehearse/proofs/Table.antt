@@ -15,11 +15,11 @@ use Rattle.model.specs.Text.{bytesOf}
 use Rattle.model.specs.Queue.{All}
 use Rattle.model.specs.Field.Field.{clock, priority, timer, holder}
 use Rattle.model.specs.Rules.{when, choose, nakedly, decide}
-use Rattle.model.specs.Machine.{State, model, step, start, refusal, after, answers}
+use Rattle.model.specs.Machine.{State, model, fieldsOf, step, start, refusal, after, answers}
 use Rattle.model.specs.Valid.{Valid}
 use Rattle.model.specs.History.{replies}
 use Rattle.model.specs.Table as tables
-use Rattle.model.specs.Table.{one, line, sample, bytes}
+use Rattle.model.specs.Table.{one, sample, bytes}
 use Rattle.model.specs.Table.Question.{code, lines, stores}
 use Rattle.area.specs.Layout.{size, slots, alter, Stored}
 use Rattle.area.specs.Layout.Part.{kept}
@@ -34,10 +34,10 @@ use Rattle.area.proofs.Puts.{placed-with, becomes-with}
 use Rattle.start.specs.Start.{startOn}
 use Rattle.monitor.specs.Calls.{Performs}
 use Rattle.monitor.specs.History.{Run}
-use Rattle.monitor.specs.History.Run.{none as done, then as next}
+use Rattle.monitor.specs.History.Run.{none, then}
 use Rattle.monitor.specs.Wire.{numberOf, answerOf}
-use Rattle.monitor.proofs.History.{Keeps, keeps-sound, keeps-state, step-answer, step-keeps, run-answers, run-keeps, start-keeps}
-use Rattle.monitor.proofs.Promises.{long-code, starts-code}
+use Rattle.monitor.proofs.History.{Keeps, keeps-sound, keeps-state, step-answer, step-keeps, run-answers, run-keeps, starts-code, start-keeps}
+use Rattle.monitor.proofs.Promises.{long-code}
 use Rattle.kernel.specs.Exports.{Begins, Crosses}
 use Rattle.kernel.proofs.Packing.{crosses, begins as conveys}
 use Rattle.kernel.proofs.Demands.{demand2, run-crossed}
@@ -45,9 +45,8 @@ use Rattle.script.specs.Line.{Meaning, meaning}
 use Rattle.script.specs.Line.Meaning.{call, start as begins}
 use Rattle.print.specs.Print.{printed}
 use Rattle.rehearse.specs.Serve.{Serves}
-use Rattle.rehearse.specs.Table.{Question, rows, zeros, Started, Played, Comes, AllCome, must, Table}
+use Rattle.rehearse.specs.Table.{Question, startLine, rows, zeros, Started, Played, Comes, AllCome, must, Table}
 use Rattle.rehearse.specs.Table.Question.{typed, words, room, asked}
-use Rattle.rehearse.specs.Table.Played.{none, then}
 
 -- ---- the clock's word may be set to any time
 
@@ -161,10 +160,10 @@ module _ {mid out : List ℕ} (S : Serves (begins sample bytes) (zeros 8192) mid
   first-keeps : Keeps sample mid ((start model sample bytes) .0)
   first-keeps = start-keeps (S .1 .0) (starts-code (S .1 .0) ∙ room-8192)
 
-typed-prints : {ws : List ℕ} {xs : List (List ℕ)} → Played (bytesOf "start 3 1 1 0 2 5 2" ∷ map lineOf eight) (zeros 8192) ws xs → xs ≡ map printed ((start model sample bytes) .1 ∷ replies model sample bytes tables.nine)
+typed-prints : {ws : List ℕ} {xs : List (List ℕ)} → Played (bytesOf startLine ∷ map lineOf eight) (zeros 8192) ws xs → xs ≡ map printed ((start model sample bytes) .1 ∷ replies model sample bytes tables.nine)
 typed-prints (then S P) = λ i. first-prints S i ∷ played-prints eight eight-mean (first-keeps S) P i
 
-lines-sound : {ws : List ℕ} {xs : List (List ℕ)} (ls : List Line) → All Means ls → Played (bytesOf "start 3 1 1 0 2 5 2" ∷ map lineOf ls) (zeros 8192) ws xs → Sound ws
+lines-sound : {ws : List ℕ} {xs : List (List ℕ)} (ls : List Line) → All Means ls → Played (bytesOf startLine ∷ map lineOf ls) (zeros 8192) ws xs → Sound ws
 lines-sound ls m (then S P) = keeps-sound (played-keeps ls m (first-keeps S) P)
 
 -- ---- something comes of every row
@@ -183,11 +182,11 @@ make : {ws : List ℕ} → Sound ws → (c : Call) → (new : List ℕ) × (r : 
 make S c = let p = perform S c in (p .0, numberOf (p .1), crosses (p .2) refl)
 
 make-all : {n : Shape} (cs : List Call) {ws : List ℕ} {s : State model} → Keeps n ws s → (new : List ℕ) × (rs : List ℕ) × Run Crosses cs ws new rs
-make-all [] {ws} K = (ws, [], done)
+make-all [] {ws} K = (ws, [], none)
 make-all (c ∷ cs) K =
     let m = make (keeps-sound K) c in
     let t = make-all cs (step-keeps K (demand2 .call (m .2))) in
-    (t .0, m .1 ∷ t .1, next (m .2) (t .2))
+    (t .0, m .1 ∷ t .1, then (m .2) (t .2))
 
 play-all : {n : Shape} (ls : List Line) → All Means ls → {ws : List ℕ} {s : State model} → Keeps n ws s → (new : List ℕ) × (xs : List (List ℕ)) × Played (map lineOf ls) ws new xs
 play-all [] t {ws} K = (ws, [], none)
@@ -208,7 +207,7 @@ any (asked (code n bs)) = let b = begin n bs (zeros (size n)) in (one (answerOf 
 any (asked (lines cs)) =
     let b = begin sample bytes (zeros (size sample)) in
     let t = make-all cs (started-keeps (b .2)) in
-    (map line (answerOf (b .1) ∷ map answerOf (t .1)), (b .0, t .0, b .1, t .1, b .2, t .2, refl))
+    (map fieldsOf (answerOf (b .1) ∷ map answerOf (t .1)), (b .0, t .0, b .1, t .1, b .2, t .2, refl))
 any (asked (stores now t)) =
     let b = begin sample bytes (zeros (size sample)) in
     let e = make (keeps-sound (started-keeps (b .2))) (Enter 1) in
@@ -234,7 +233,7 @@ comes-told words xs c = c .3 ∙ ap (λ (ws : List ℕ). ws ∷ []) (started-is 
 comes-told (room k) xs c = c .3 ∙ ap one (room-is k (c .2))
 comes-told (asked (code n bs)) xs c = c .3 ∙ ap one (room-is (size n) (c .2) ∙ long-code n bs (size n) (omega arith))
 comes-told (asked (lines cs)) xs c =
-    c .6 ∙ (λ i. map line (started-is (c .4) .0 i ∷ run-answers ((start model sample bytes) .0) (started-keeps (c .4)) (run-crossed (c .5)) i))
+    c .6 ∙ (λ i. map fieldsOf (started-is (c .4) .0 i ∷ run-answers ((start model sample bytes) .0) (started-keeps (c .4)) (run-crossed (c .5)) i))
 comes-told (asked (stores now t)) xs c =
     c .9 ∙ ap {A = State model} (λ s. one (s .fields (timer 2))) (keeps-state (step-keeps (clocked-keeps (c .6) now (c .7)) (demand2 .call (c .8))))
 

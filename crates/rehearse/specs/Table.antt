@@ -1,6 +1,6 @@
--- 01's whole table, of what C calls and of Rehearse: from exports and lines that keep their promises that comes of its rows which must come, and
--- nothing else. All rows are one fact, and each area that they ask of is sound: `whole-table` (`crates/rehearse/proofs/Table.antt`). Assumes
--- nothing.
+-- 01's whole table, of what C calls and of Rehearse: what each row says comes from exports and lines that keep their promises, and nothing else
+-- does. All rows are one fact, `whole-table` (`crates/rehearse/proofs/Table.antt`); beside it stands that each area on which a row makes a call
+-- is sound. Start is asked on zeros. Assumes nothing.
 use Prim.Native.Nat.{ℕ, _%_}
 use Prim.Native.String.{String}
 use mathlib.Core.Path.{_≡_}
@@ -11,8 +11,9 @@ use Rattle.model.specs.declared.Call.the-variants.{Enter, Wait}
 use Rattle.model.specs.Text.{bytesOf}
 use Rattle.model.specs.Queue.{All}
 use Rattle.model.specs.Field.Field.{timer}
+use Rattle.model.specs.Machine.{fieldsOf}
 use Rattle.model.specs.Table as tables
-use Rattle.model.specs.Table.{one, line, sample, bytes, table}
+use Rattle.model.specs.Table.{one, sample, bytes, table}
 use Rattle.model.specs.Table.Question.{code, lines, stores}
 use Rattle.area.specs.Layout.{size}
 use Rattle.area.specs.Reading.{stateOf}
@@ -26,10 +27,14 @@ use Rattle.rehearse.specs.Serve.{Serves}
 
 -- ---- the rows
 
+-- the line that starts the sample
+abbrev pub startLine : String
+startLine = "start 3 1 1 0 2 5 2"
+
 -- 01's nine lines: input, and its line
 abbrev pub nine : List (String × String)
 nine =
-    ("start 3 1 1 0 2 5 2", "0 2 0 0 0")
+    (startLine, "0 2 0 0 0")
     ∷ ("enter 1", "0 2 0 1 0")
     ∷ ("wait 1 1 0", "0 1 0 1 0")
     ∷ ("enter 1", "0 1 0 1 0")
@@ -71,9 +76,8 @@ abbrev pub Started : List ℕ → ℕ → Type 0
 Started ws r = Begins sample bytes (zeros (size sample)) ws r
 
 -- lines served one after the other: from one area to another, with what is printed
-pub data Played : List (List ℕ) → List ℕ → List ℕ → List (List ℕ) → Type 0 where
-  none : {ws : List ℕ} → Played [] ws ws []
-  then : {l out old mid new : List ℕ} {ls outs : List (List ℕ)} → Serves (meaning l) old mid out → Played ls mid new outs → Played (l ∷ ls) old new (out ∷ outs)
+abbrev pub Played : List (List ℕ) → List ℕ → List ℕ → List (List ℕ) → Type 0
+Played = Run (λ (line old new out : List ℕ). Serves (meaning line) old new out)
 
 -- these lines come of a question; Rehearse's area has 8,192 words, and the clock is word 3
 abbrev pub Comes : Question → List (List ℕ) → Type 0
@@ -82,7 +86,7 @@ Comes words xs = (ws : List ℕ) × (r : ℕ) × Started ws r × (xs ≡ ws ∷ 
 Comes (room k) xs = (ws : List ℕ) × (r : ℕ) × Begins sample bytes (zeros k) ws r × (xs ≡ one (answerOf r .code))
 Comes (asked (code n bs)) xs = (ws : List ℕ) × (r : ℕ) × Begins n bs (zeros (size n)) ws r × (xs ≡ one (answerOf r .code))
 Comes (asked (lines cs)) xs =
-    (begun ws : List ℕ) × (r : ℕ) × (rs : List ℕ) × Started begun r × Run Crosses cs begun ws rs × (xs ≡ map line (answerOf r ∷ map answerOf rs))
+    (begun ws : List ℕ) × (r : ℕ) × (rs : List ℕ) × Started begun r × Run Crosses cs begun ws rs × (xs ≡ map fieldsOf (answerOf r ∷ map answerOf rs))
 Comes (asked (stores now t)) xs =
     (begun entered ws : List ℕ) × (r s u : ℕ)
     × Started begun r × Crosses (Enter 1) begun entered s × Crosses (Wait 1 1 (record { 0 = t })) (set entered 3 (now % 65536)) ws u
@@ -105,8 +109,9 @@ pub record Table : Type 0 where
   -- that comes, and nothing else
   pub comes : AllCome rows must
   pub alone : {xs : List (List (List ℕ))} → AllCome rows xs → xs ≡ must
-  -- the areas that the rows ask of are sound: after any calls on the sample, at any clock, and after the start line and any lines that are calls
+  -- the areas on which the rows make calls are sound: after any calls on the sample, at any clock, and after the start line and any lines that
+  -- are calls
   pub sound-calls : {cs : List Call} {begun ws rs : List ℕ} {r : ℕ} → Started begun r → Run Crosses cs begun ws rs → Sound ws
   pub sound-clock : {begun entered : List ℕ} {r s : ℕ} (now : ℕ) → Started begun r → Crosses (Enter 1) begun entered s → Sound (set entered 3 (now % 65536))
   pub sound-lines : {ws : List ℕ} {xs : List (List ℕ)} (ls : List (List ℕ × Call)) → All (λ (l : List ℕ × Call). meaning (l .0) ≡ call (l .1)) ls
-      → Played (bytesOf "start 3 1 1 0 2 5 2" ∷ map (λ (l : List ℕ × Call). l .0) ls) (zeros 8192) ws xs → Sound ws
+      → Played (bytesOf startLine ∷ map (λ (l : List ℕ × Call). l .0) ls) (zeros 8192) ws xs → Sound ws

@@ -21,23 +21,14 @@ Row = String × Meaning
 abbrev Holds : List Row → Type 0
 Holds rows = map (λ (r : Row). meaning (bytesOf (r .0))) rows ≡ map (λ (r : Row). r .1) rows
 
--- 01's nine lines
-nine-lines : Holds
+-- each call; leading zeros; the largest number; Start without bytes and with the largest byte
+calls : Holds
     (("start 3 1 1 0 2 5 2", start (shape 3 1 1 0) (2 ∷ 5 ∷ 2 ∷ []))
     ∷ ("enter 1", call (Enter 1))
-    ∷ ("wait 1 1 0", call (Wait 1 1 (record { 0 = 0 })))
-    ∷ ("enter 1", call (Enter 1))
+    ∷ ("exit 1", call (Exit 1))
+    ∷ ("wait 1 2 3", call (Wait 1 2 (record { 0 = 3 })))
     ∷ ("notify 1", call (Notify 1))
-    ∷ ("enter 1", call (Enter 1))
-    ∷ ("exit 1", call (Exit 1))
-    ∷ ("exit 1", call (Exit 1))
-    ∷ ("enter 1", call (Enter 1))
-    ∷ [])
-nine-lines = refl
-
--- the other calls; leading zeros; the largest number; Start without bytes and with the largest byte
-other-calls : Holds
-    (("broadcast 2", call (Broadcast 2))
+    ∷ ("broadcast 2", call (Broadcast 2))
     ∷ ("naked 3", call (Naked 3))
     ∷ ("requeue 0 8 1023", call (Requeue 0 8 (record { 0 = 1023 })))
     ∷ ("setpriority 7", call (SetPriority (record { 0 = 7 })))
@@ -48,7 +39,7 @@ other-calls : Holds
     ∷ ("start 3 1 1 0", start (shape 3 1 1 0) [])
     ∷ ("start 3 1 1 0 2 5 255", start (shape 3 1 1 0) (2 ∷ 5 ∷ 255 ∷ []))
     ∷ [])
-other-calls = refl
+calls = refl
 
 -- no calls: an empty line, a number too large, spaces, a number too few or too many, upper case, a sign, tab, CR, a letter in a number, a longer name, a byte too large
 no-calls : Holds
