@@ -26,6 +26,7 @@ unfoldable pub when : Bool → ℕ → Effect → Effect
 when true k e = refuse k
 when false k e = e
 
+-- d where the test holds, else e
 unfoldable pub choose : Bool → Effect → Effect → Effect
 choose true d e = d
 choose false d e = e

@@ -15,7 +15,7 @@ use Rattle.model.specs.Text.{bytesOf}
 use Rattle.model.specs.Queue.{All}
 use Rattle.model.specs.Field.Field.{clock, priority, timer, holder}
 use Rattle.model.specs.Rules.{when, choose, nakedly, decide}
-use Rattle.model.specs.Machine.{State, model, fieldsOf, step, start, refusal, after, answers}
+use Rattle.model.specs.Machine.{State, model, fieldsOf, step, start, refusal}
 use Rattle.model.specs.Valid.{Valid}
 use Rattle.model.specs.History.{replies}
 use Rattle.model.specs.Table as tables
@@ -36,7 +36,7 @@ use Rattle.monitor.specs.Calls.{Performs}
 use Rattle.monitor.specs.History.{Run}
 use Rattle.monitor.specs.History.Run.{none, then}
 use Rattle.monitor.specs.Wire.{numberOf, answerOf}
-use Rattle.monitor.proofs.History.{Keeps, keeps-sound, keeps-state, step-answer, step-keeps, run-answers, run-keeps, starts-code, start-keeps}
+use Rattle.monitor.proofs.History.{Keeps, keeps-sound, keeps-state, step-keeps, run-answers, run-keeps, starts-code, start-keeps}
 use Rattle.monitor.proofs.Promises.{long-code}
 use Rattle.kernel.specs.Exports.{Begins, Crosses}
 use Rattle.kernel.proofs.Packing.{crosses, begins as conveys}
@@ -139,16 +139,14 @@ eight-mean = (refl, (refl, (refl, (refl, (refl, (refl, (refl, (refl, tt))))))))
 served : {old new out : List ℕ} (l : Line) → Means l → Serves (meaning (lineOf l)) old new out → Serves (call (callOf l)) old new out
 served {old} {new} {out} l e S = subst (λ (m : Meaning). Serves m old new out) e S
 
-module _ {n : Shape} where
-  played-prints : (ls : List Line) → All Means ls → {ws new : List ℕ} {xs : List (List ℕ)} {s : State model} → Keeps n ws s → Played (map lineOf ls) ws new xs → xs ≡ map printed (answers model n s (map callOf ls))
-  played-prints [] t K none = refl
-  played-prints (l ∷ ls) (e, es) K (then S P) =
-      let v = served l e S in
-      λ i. (v .1 .1 ∙ ap printed (step-answer K (v .1 .0))) i ∷ played-prints ls es (step-keeps K (v .1 .0)) P i
-
-  played-keeps : (ls : List Line) → All Means ls → {ws new : List ℕ} {xs : List (List ℕ)} {s : State model} → Keeps n ws s → Played (map lineOf ls) ws new xs → Keeps n new (after model n s (map callOf ls))
-  played-keeps [] t K none = K
-  played-keeps (l ∷ ls) (e, es) K (then S P) = played-keeps ls es (step-keeps K (served l e S .1 .0)) P
+-- lines that are calls make a run of these calls, and their answers are printed
+played-run : (ls : List Line) → All Means ls → {ws new : List ℕ} {xs : List (List ℕ)} → Played (map lineOf ls) ws new xs
+    → (rs : List Answer) × Run Performs (map callOf ls) ws new rs × (xs ≡ map printed rs)
+played-run [] t none = ([], none, refl)
+played-run (l ∷ ls) (e, es) (then S P) =
+    let v = served l e S in
+    let t = played-run ls es P in
+    (v .0 ∷ t .0, then (v .1 .0) (t .1), λ i. v .1 .1 i ∷ t .2 i)
 
 room-8192 : startOn sample bytes (length (zeros 8192)) ≡ 0
 room-8192 = ap (startOn sample bytes) (zeros-long 8192)
@@ -161,10 +159,12 @@ module _ {mid out : List ℕ} (S : Serves (begins sample bytes) (zeros 8192) mid
   first-keeps = start-keeps (S .1 .0) (starts-code (S .1 .0) ∙ room-8192)
 
 typed-prints : {ws : List ℕ} {xs : List (List ℕ)} → Played (bytesOf startLine ∷ map lineOf eight) (zeros 8192) ws xs → xs ≡ map printed ((start model sample bytes) .1 ∷ replies model sample bytes tables.nine)
-typed-prints (then S P) = λ i. first-prints S i ∷ played-prints eight eight-mean (first-keeps S) P i
+typed-prints (then S P) =
+    let t = played-run eight eight-mean P in
+    λ i. first-prints S i ∷ (t .2 ∙ ap (map printed) (run-answers ((start model sample bytes) .0) (first-keeps S) (t .1))) i
 
 lines-sound : {ws : List ℕ} {xs : List (List ℕ)} (ls : List Line) → All Means ls → Played (bytesOf startLine ∷ map lineOf ls) (zeros 8192) ws xs → Sound ws
-lines-sound ls m (then S P) = keeps-sound (played-keeps ls m (first-keeps S) P)
+lines-sound ls m (then S P) = keeps-sound (run-keeps ((start model sample bytes) .0) (first-keeps S) (played-run ls m P .1))
 
 -- ---- something comes of every row
 
