@@ -51,17 +51,27 @@ starts p v parks = code record { processes = p; locks = 0; conditions = 0; parks
 
 -- ---- the table
 
--- the calls of the nine lines after their start
+-- the calls of the nine lines after their start, and the answers to all nine
 abbrev pub nine : List Call
 nine = Enter 1 ∷ Wait 1 1 (record { 0 = 0 }) ∷ Enter 1 ∷ Notify 1 ∷ Enter 1 ∷ Exit 1 ∷ Exit 1 ∷ Enter 1 ∷ []
 
+abbrev nineAnswers : List (List ℕ)
+nineAnswers =
+    (0 ∷ 2 ∷ 0 ∷ 0 ∷ 0 ∷ [])
+    ∷ (0 ∷ 2 ∷ 0 ∷ 1 ∷ 0 ∷ [])
+    ∷ (0 ∷ 1 ∷ 0 ∷ 1 ∷ 0 ∷ [])
+    ∷ (0 ∷ 1 ∷ 0 ∷ 1 ∷ 0 ∷ [])
+    ∷ (0 ∷ 2 ∷ 0 ∷ 0 ∷ 1 ∷ [])
+    ∷ (0 ∷ 1 ∷ 0 ∷ 0 ∷ 0 ∷ [])
+    ∷ (0 ∷ 2 ∷ 1 ∷ 0 ∷ 1 ∷ [])
+    ∷ (9 ∷ 0 ∷ 0 ∷ 0 ∷ 0 ∷ [])
+    ∷ (0 ∷ 2 ∷ 0 ∷ 1 ∷ 0 ∷ [])
+    ∷ []
+
 -- each question, and the lines of numbers that must come
 abbrev pub table : List (Question × List (List ℕ))
-table = (
-  lines nine,
-  (0 ∷ 2 ∷ 0 ∷ 0 ∷ 0 ∷ []) ∷ (0 ∷ 2 ∷ 0 ∷ 1 ∷ 0 ∷ []) ∷ (0 ∷ 1 ∷ 0 ∷ 1 ∷ 0 ∷ []) ∷ (0 ∷ 1 ∷ 0 ∷ 1 ∷ 0 ∷ []) ∷ (0 ∷ 2 ∷ 0 ∷ 0 ∷ 1 ∷ [])
-      ∷ (0 ∷ 1 ∷ 0 ∷ 0 ∷ 0 ∷ []) ∷ (0 ∷ 2 ∷ 1 ∷ 0 ∷ 1 ∷ []) ∷ (9 ∷ 0 ∷ 0 ∷ 0 ∷ 0 ∷ []) ∷ (0 ∷ 2 ∷ 0 ∷ 1 ∷ 0 ∷ []) ∷ [],
-)
+table =
+    (lines nine, nineAnswers)
     ∷ (starts 1023 0 0, one 0)
     ∷ (starts 0 0 0, one 2)
     ∷ (starts 1024 0 0, one 2)
@@ -84,11 +94,13 @@ entered M now =
     let s = end M sample bytes (Enter 1 ∷ []) in
     record { fields = put clock (now % 65536) (s .fields); queues = s .queues }
 
+-- what it answers to a question
 abbrev pub told : Machine → Question → List (List ℕ)
 told M (code n bs) = one (startCode n bs)
 told M (lines cs) = map fieldsOf ((start M sample bytes) .1 ∷ replies M sample bytes cs)
 told M (stores now t) = one ((step M sample (entered M now) (Wait 1 1 (record { 0 = t }))) .0 .fields (timer 2))
 
+-- its answers beside what must come
 abbrev pub rowsOf : Machine → List Row
 rowsOf M = map (λ (r : Question × List (List ℕ)). record { come = told M (r .0); must = r .1 }) table
 

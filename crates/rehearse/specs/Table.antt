@@ -45,6 +45,12 @@ nine =
     ∷ ("enter 1", "0 2 0 1 0")
     ∷ []
 
+-- the eighteen words after the sample's start
+abbrev pub eighteen : List ℕ
+eighteen =
+    0x0003 ∷ 0x0101 ∷ 0x0000 ∷ 0x0000 ∷ 0x0010 ∷ 0x0018 ∷ 0x0000 ∷ 0x0000 ∷ 0x0000
+    ∷ 0x4018 ∷ 0x0000 ∷ 0x0000 ∷ 0xA008 ∷ 0x0000 ∷ 0x0000 ∷ 0x4010 ∷ 0x0000 ∷ 0x0000 ∷ []
+
 -- what is printed for the nine lines; the words after the sample's start; Start's code for it on an area of so many words; what `model` asks
 pub data Question : Type 0 where
   typed : Question
@@ -56,11 +62,7 @@ pub data Question : Type 0 where
 abbrev pub rows : List (Question × List (List ℕ))
 rows =
     (typed, map (λ (p : String × String). bytesOf (p .1) ++ bytesOf "\n") nine)
-    ∷ (
-      words,
-      (0x0003 ∷ 0x0101 ∷ 0x0000 ∷ 0x0000 ∷ 0x0010 ∷ 0x0018 ∷ 0x0000 ∷ 0x0000 ∷ 0x0000
-          ∷ 0x4018 ∷ 0x0000 ∷ 0x0000 ∷ 0xA008 ∷ 0x0000 ∷ 0x0000 ∷ 0x4010 ∷ 0x0000 ∷ 0x0000 ∷ []) ∷ [],
-    )
+    ∷ (words, eighteen ∷ [])
     ∷ (room 17, one 5)
     ∷ (room 18, one 0)
     ∷ map (λ (r : tables.Question × List (List ℕ)). (asked (r .0), r .1)) table
