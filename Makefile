@@ -52,7 +52,7 @@ bench-rehearse: rehearse target/rehearse-plain
 	python3 bench/rehearse.py target/bin/rehearse target/rehearse-plain target
 
 plot: target/bench
-	target/bench 3 10 30 100 300 1023 > target/bench.txt
+	target/bench 4 8 16 32 64 128 256 512 1023 > target/bench.txt
 	python3 bench/plot.py < target/bench.txt > docs/cost.svg
 
 fuzz: lib rehearse

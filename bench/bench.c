@@ -1,5 +1,7 @@
-/* Times the library against the plain C kernel, call by call, in one run: rounds of both alternate, and the table shows the medians and
- * their ratio. The arguments are the sizes, as counts of processes; without any, 3, 50 and 1023. */
+/* Times the library against the plain C kernel in one run. A row of the table is a call, or a few, on a scene: an area in which the
+ * queues are laid for it. Every time the calls find a fresh copy of the scene, and the copying is not timed. Rounds of both kernels
+ * alternate, and the whole table is gone through several times; a time is that of the fastest round, which the machine's other work
+ * disturbed least. The arguments are the sizes, as counts of processes; without any, 3, 50 and 1023. */
 #define _POSIX_C_SOURCE 199309L
 
 #include "../include/kernel.h"
@@ -35,142 +37,303 @@ struct calls {
 
 static const struct calls LIBRARY = CALLS_OF(kernel), PLAIN = CALLS_OF(plain);
 
-enum { LOCKS = 2, CONDITIONS = 4, PARKS = 2, PRIORITY = 3, MAX_PROCESSES = 1023 };
-enum { EMPTY = CONDITIONS }; /* the condition in which nobody ever waits */
-enum { MAX_WORDS = KERNEL_AREA_WORDS(MAX_PROCESSES, LOCKS, CONDITIONS, PARKS) };
+enum { LOCKS = 2, FEW_CONDITIONS = 4, MANY_CONDITIONS = 255, PARKS = 2, PRIORITY = 3, MAX_PROCESSES = 1023 };
+enum { MAX_WORDS = KERNEL_AREA_WORDS(MAX_PROCESSES, LOCKS, MANY_CONDITIONS, PARKS) };
 
-struct bench {
-    uint16_t processes;
-    bool waiting; /* all wait in conditions; otherwise all are ready */
-    size_t words;
-    uint16_t area[MAX_WORDS];
-    uint16_t asleep[MAX_WORDS]; /* an area in which one runs and all others wait on condition 1, due at the next tick */
-    uint16_t buffer[MAX_PROCESSES];
-    uint8_t priorities[MAX_PROCESSES];
+/* Scenes. */
+
+/* Which priority a process has. */
+
+typedef uint8_t priority(unsigned process, unsigned processes);
+
+static uint8_t equal(unsigned process, unsigned processes)
+{
+    (void)process, (void)processes;
+    return PRIORITY;
+}
+
+/* The same in every run. */
+static uint8_t any(unsigned process, unsigned processes)
+{
+    uint32_t mixed = (process + 1) * UINT32_C(2654435761);
+    (void)processes;
+    mixed = (mixed ^ mixed >> 15) * UINT32_C(2246822519);
+    return mixed >> 13 & 7;
+}
+
+static uint8_t rising(unsigned process, unsigned processes)
+{
+    return (uint8_t)((process - 1) * 8 / processes);
+}
+
+/* Below all others is the last, who runs while they wait. */
+static uint8_t low_runner(unsigned process, unsigned processes)
+{
+    return process == processes ? 0 : PRIORITY;
+}
+
+/* The even ones are above the odd ones, and the first is below all. */
+static uint8_t layered(unsigned process, unsigned processes)
+{
+    (void)processes;
+    if (process == 1)
+        return 0;
+    return process % 2 == 0 ? PRIORITY + 1 : PRIORITY;
+}
+
+/* Who waits. */
+
+typedef bool waits(unsigned process, unsigned processes);
+
+static bool nobody(unsigned process, unsigned processes)
+{
+    (void)process, (void)processes;
+    return false;
+}
+
+static bool everybody(unsigned process, unsigned processes)
+{
+    (void)process, (void)processes;
+    return true;
+}
+
+static bool all_but_last(unsigned process, unsigned processes)
+{
+    return process != processes;
+}
+
+static bool odd_but_first(unsigned process, unsigned processes)
+{
+    (void)processes;
+    return process % 2 == 1 && process != 1;
+}
+
+enum place { FIRST_CONDITION, LAST_CONDITION, EACH_CONDITION, FIRST_LOCK };
+enum order { FORWARDS, BACKWARDS };
+enum timer { NOT_DUE = 0, DUE = 1 };
+
+struct scene {
+    const char *name;
+    priority *priority;
+    waits *waits;
+    enum place place;       /* where they wait */
+    enum order order;       /* in which they came there, by process number */
+    enum timer timer;       /* whether they are due at the next tick */
+    uint16_t conditions;
 };
 
-/* Those who run, so many of them, wait one after the other, on this condition or, for 0, on each in turn. */
-static void put_to_sleep(struct bench *b, uint16_t *area, unsigned sleepers, unsigned condition, uint16_t ticks)
+static const struct scene
+    READY = {"ready", equal, nobody, FIRST_CONDITION, FORWARDS, NOT_DUE, FEW_CONDITIONS},
+    READY_ANY = {"ready, random", any, nobody, FIRST_CONDITION, FORWARDS, NOT_DUE, FEW_CONDITIONS},
+    WAITING = {"waiting", equal, everybody, FIRST_CONDITION, FORWARDS, NOT_DUE, FEW_CONDITIONS},
+    WAITING_ANY = {"waiting, random", any, everybody, FIRST_CONDITION, FORWARDS, NOT_DUE, FEW_CONDITIONS},
+    WAITING_SPREAD = {"waiting on 255", any, everybody, EACH_CONDITION, FORWARDS, NOT_DUE, MANY_CONDITIONS},
+    /* the last process holds the lock for which the others queue */
+    BLOCKED = {"blocked, random", any, all_but_last, FIRST_LOCK, FORWARDS, NOT_DUE, FEW_CONDITIONS},
+    HALF = {"half, random", any, odd_but_first, FIRST_CONDITION, FORWARDS, NOT_DUE, FEW_CONDITIONS},
+    /* those who wake: one runs, and all others wait */
+    EQUAL = {"equal", equal, all_but_last, FIRST_CONDITION, FORWARDS, DUE, FEW_CONDITIONS},
+    ANY = {"random", any, all_but_last, FIRST_CONDITION, FORWARDS, DUE, FEW_CONDITIONS},
+    RISING = {"rising", rising, all_but_last, FIRST_CONDITION, FORWARDS, DUE, FEW_CONDITIONS},
+    REVERSED = {"reversed", equal, all_but_last, FIRST_CONDITION, BACKWARDS, DUE, FEW_CONDITIONS},
+    LOW_RUNNER = {"above the runner", low_runner, all_but_last, FIRST_CONDITION, BACKWARDS, DUE, FEW_CONDITIONS},
+    SPREAD = {"on all of 255", any, all_but_last, EACH_CONDITION, BACKWARDS, DUE, MANY_CONDITIONS},
+    LAST = {"on the last of 255", any, all_but_last, LAST_CONDITION, BACKWARDS, DUE, MANY_CONDITIONS},
+    /* half are ready, and those who wake join in their midst */
+    AMIDST = {"amidst the ready", layered, odd_but_first, FIRST_CONDITION, BACKWARDS, DUE, FEW_CONDITIONS};
+
+/* A scene of a size, and copies of it, as many as a small cache holds. */
+struct bench {
+    uint16_t processes, conditions;
+    uint16_t waited_on; /* the condition on which those of a scene wait who wait on one */
+    uint16_t middle;    /* the process in the middle of ready */
+    size_t words, stride, copies;
+    uint8_t priorities[MAX_PROCESSES];
+    uint16_t scene[MAX_WORDS];
+    uint16_t pool[12288];
+    uint16_t buffer[MAX_PROCESSES];
+};
+
+/* A process that is parked runs, and waits where it is to. */
+static void lay_down(struct bench *b, const struct scene *s, unsigned process)
 {
-    for (unsigned sleeper = 0; sleeper < sleepers; sleeper++) {
-        plain_enter(area, b->words, 1);
-        plain_wait(area, b->words, 1, (uint16_t)(condition ? condition : 1 + sleeper % (CONDITIONS - 1)), ticks);
+    plain_requeue(b->scene, b->words, 1, 0, (uint16_t)process);
+    plain_enter(b->scene, b->words, 1);
+    if (s->place == EACH_CONDITION)
+        plain_wait(b->scene, b->words, 1, (uint16_t)(1 + process % s->conditions), s->timer);
+    else if (s->place != FIRST_LOCK)
+        plain_wait(b->scene, b->words, 1, b->waited_on, s->timer);
+}
+
+static void lay_all_down(struct bench *b, const struct scene *s)
+{
+    unsigned processes = b->processes;
+    for (unsigned turn = 1; turn <= processes; turn++) {
+        unsigned process = s->order == BACKWARDS ? processes + 1 - turn : turn;
+        if (s->waits(process, processes))
+            lay_down(b, s, process);
     }
 }
 
-static void make(struct bench *b, uint16_t processes, bool waiting)
+static void make(struct bench *b, const struct scene *s, uint16_t processes)
 {
     memset(b, 0, sizeof *b);
     b->processes = processes;
-    b->waiting = waiting;
-    b->words = KERNEL_AREA_WORDS(processes, LOCKS, CONDITIONS, PARKS);
-    memset(b->priorities, PRIORITY, processes);
-    plain_start(b->area, b->words, processes, LOCKS, CONDITIONS, PARKS, b->priorities, processes);
-    memcpy(b->asleep, b->area, sizeof b->area);
-    put_to_sleep(b, b->asleep, processes - 1u, 1, 1);
-    if (waiting)
-        put_to_sleep(b, b->area, processes, 0, 0);
+    b->conditions = s->conditions;
+    b->waited_on = s->place == LAST_CONDITION ? s->conditions : 1;
+    b->words = KERNEL_AREA_WORDS(processes, LOCKS, s->conditions, PARKS);
+    b->stride = (b->words + 31) / 32 * 32;
+    b->copies = sizeof b->pool / sizeof *b->pool / b->stride;
+    for (unsigned process = 1; process <= processes; process++)
+        b->priorities[process - 1] = s->priority(process, processes);
+    plain_start(b->scene, b->words, processes, LOCKS, s->conditions, PARKS, b->priorities, processes);
+    for (unsigned process = 1; process <= processes; process++)
+        plain_requeue(b->scene, b->words, 0, 1, (uint16_t)process);
+    if (s->place == FIRST_LOCK) {
+        plain_requeue(b->scene, b->words, 1, 0, processes);
+        plain_enter(b->scene, b->words, 1);
+        plain_requeue(b->scene, b->words, 0, 1, processes);
+    }
+    lay_all_down(b, s);
+    for (unsigned process = 1; process <= processes; process++)
+        plain_requeue(b->scene, b->words, 1, 0, (uint16_t)process);
+    unsigned ready = KERNEL_COUNT(plain_list(b->scene, b->words, 0, 0, b->buffer, processes));
+    b->middle = b->buffer[ready / 2];
 }
 
-/* The cases. Each leaves a state in which it can be repeated, and answers a sum of answers. */
+/* The work of a row, on a copy of its scene. It answers a sum of answers. */
 
-typedef uint64_t work(const struct calls *, struct bench *);
+typedef uint64_t work(const struct calls *, struct bench *, uint16_t *area);
 
-static uint64_t do_start(const struct calls *c, struct bench *b)
+static uint64_t do_start(const struct calls *c, struct bench *b, uint16_t *area)
 {
-    return c->start(b->area, b->words, b->processes, LOCKS, CONDITIONS, PARKS, b->priorities, b->processes);
+    return c->start(area, b->words, b->processes, LOCKS, b->conditions, PARKS, b->priorities, b->processes);
 }
 
-static uint64_t do_sound(const struct calls *c, struct bench *b)
+static uint64_t do_sound(const struct calls *c, struct bench *b, uint16_t *area)
 {
-    return c->sound(b->area, b->words);
+    return c->sound(area, b->words);
 }
 
-static uint64_t do_enter_exit(const struct calls *c, struct bench *b)
+static uint64_t do_enter_exit(const struct calls *c, struct bench *b, uint16_t *area)
 {
-    return c->enter(b->area, b->words, 1) + c->exit(b->area, b->words, 1);
+    return c->enter(area, b->words, 1) + c->exit(area, b->words, 1);
 }
 
-static uint64_t do_naked_enter_wait(const struct calls *c, struct bench *b)
+/* One takes the lock and goes behind its equals, and the next fails to take it. */
+static uint64_t do_enter_twice(const struct calls *c, struct bench *b, uint16_t *area)
 {
-    return c->naked(b->area, b->words, EMPTY) + c->enter(b->area, b->words, 1) +
-           c->wait(b->area, b->words, 1, EMPTY, 0);
+    return c->enter(area, b->words, 1) + c->set_priority(area, b->words, PRIORITY) + c->enter(area, b->words, 1);
 }
 
-static uint64_t do_enter_wait_notify(const struct calls *c, struct bench *b)
+static uint64_t do_exit(const struct calls *c, struct bench *b, uint16_t *area)
 {
-    return c->enter(b->area, b->words, 1) + c->wait(b->area, b->words, 1, 1, 9) +
-           c->notify(b->area, b->words, 1);
+    return c->exit(area, b->words, 1);
 }
 
-static uint64_t do_notify(const struct calls *c, struct bench *b)
+static uint64_t do_naked_enter_wait(const struct calls *c, struct bench *b, uint16_t *area)
 {
-    return c->notify(b->area, b->words, EMPTY);
+    return c->naked(area, b->words, b->conditions) + c->enter(area, b->words, 1) +
+           c->wait(area, b->words, 1, b->conditions, 0);
 }
 
-static uint64_t do_broadcast(const struct calls *c, struct bench *b)
+static uint64_t do_enter_wait_notify(const struct calls *c, struct bench *b, uint16_t *area)
 {
-    return c->broadcast(b->area, b->words, EMPTY);
+    return c->enter(area, b->words, 1) + c->wait(area, b->words, 1, 1, 9) + c->notify(area, b->words, 1);
 }
 
-static uint64_t do_broadcast_all(const struct calls *c, struct bench *b)
+/* Nobody waits on the last of few conditions. */
+static uint64_t do_notify_none(const struct calls *c, struct bench *b, uint16_t *area)
 {
-    memcpy(b->area, b->asleep, b->words * sizeof *b->area);
-    return c->broadcast(b->area, b->words, 1);
+    return c->notify(area, b->words, FEW_CONDITIONS);
 }
 
-static uint64_t do_naked(const struct calls *c, struct bench *b)
+static uint64_t do_broadcast_none(const struct calls *c, struct bench *b, uint16_t *area)
 {
-    return c->naked(b->area, b->words, EMPTY);
+    return c->broadcast(area, b->words, FEW_CONDITIONS);
 }
 
-static uint64_t do_requeue(const struct calls *c, struct bench *b)
+static uint64_t do_naked_none(const struct calls *c, struct bench *b, uint16_t *area)
 {
-    return c->requeue(b->area, b->words, 0, 0, b->processes);
+    return c->naked(area, b->words, FEW_CONDITIONS);
 }
 
-static uint64_t do_set_priority(const struct calls *c, struct bench *b)
+static uint64_t do_broadcast(const struct calls *c, struct bench *b, uint16_t *area)
 {
-    return c->set_priority(b->area, b->words, PRIORITY);
+    return c->broadcast(area, b->words, b->waited_on);
 }
 
-static uint64_t do_tick(const struct calls *c, struct bench *b)
+static uint64_t do_requeue(const struct calls *c, struct bench *b, uint16_t *area)
 {
-    return c->tick(b->area, b->words);
+    return c->requeue(area, b->words, 0, 0, b->middle);
 }
 
-static uint64_t do_tick_due(const struct calls *c, struct bench *b)
+static uint64_t do_set_priority(const struct calls *c, struct bench *b, uint16_t *area)
 {
-    memcpy(b->area, b->asleep, b->words * sizeof *b->area);
-    return c->tick(b->area, b->words);
+    return c->set_priority(area, b->words, PRIORITY);
 }
 
-static uint64_t do_list(const struct calls *c, struct bench *b)
+static uint64_t do_tick(const struct calls *c, struct bench *b, uint16_t *area)
 {
-    uint16_t kind = b->waiting ? 3 : 0;
-    uint16_t number = b->waiting ? 1 : 0;
-    return c->list(b->area, b->words, kind, number, b->buffer, b->processes);
+    return c->tick(area, b->words);
+}
+
+static uint64_t do_list_ready(const struct calls *c, struct bench *b, uint16_t *area)
+{
+    return c->list(area, b->words, 0, 0, b->buffer, b->processes);
+}
+
+static uint64_t do_list_waiting(const struct calls *c, struct bench *b, uint16_t *area)
+{
+    return c->list(area, b->words, 3, b->waited_on, b->buffer, b->processes);
 }
 
 static const struct row {
     const char *name;
     work *work;
-    bool also_waiting; /* whether it is of interest while nobody runs */
+    const struct scene *scene;
 } ROWS[] = {
-    {"start", do_start, false},
-    {"sound", do_sound, true},
-    {"enter, exit", do_enter_exit, false},
-    {"naked, enter, wait", do_naked_enter_wait, false},
-    {"enter, wait, notify", do_enter_wait_notify, false},
-    {"notify, empty", do_notify, false},
-    {"broadcast, empty", do_broadcast, false},
-    {"broadcast, to all", do_broadcast_all, false},
-    {"naked, empty", do_naked, true},
-    {"requeue", do_requeue, false},
-    {"set_priority", do_set_priority, false},
-    {"tick", do_tick, true},
-    {"tick, all due", do_tick_due, false},
-    {"list", do_list, true},
+    {"start", do_start, &READY},
+    {"start", do_start, &READY_ANY},
+    {"sound", do_sound, &READY},
+    {"sound", do_sound, &READY_ANY},
+    {"sound", do_sound, &WAITING},
+    {"sound", do_sound, &WAITING_SPREAD},
+    {"sound", do_sound, &BLOCKED},
+    {"enter, exit", do_enter_exit, &READY},
+    {"enter, behind, enter", do_enter_twice, &READY},
+    {"exit to the next", do_exit, &BLOCKED},
+    {"naked, enter, wait", do_naked_enter_wait, &READY},
+    {"enter, wait, notify", do_enter_wait_notify, &READY},
+    {"enter, wait, notify", do_enter_wait_notify, &HALF},
+    {"notify none", do_notify_none, &READY},
+    {"broadcast to none", do_broadcast_none, &READY},
+    {"naked to none", do_naked_none, &READY},
+    {"naked to none", do_naked_none, &WAITING},
+    {"requeue", do_requeue, &READY},
+    {"requeue", do_requeue, &READY_ANY},
+    {"set_priority", do_set_priority, &READY},
+    {"set_priority", do_set_priority, &READY_ANY},
+    {"tick", do_tick, &READY},
+    {"tick", do_tick, &WAITING},
+    {"tick", do_tick, &WAITING_SPREAD},
+    {"list", do_list_ready, &READY},
+    {"list", do_list_ready, &READY_ANY},
+    {"list", do_list_waiting, &WAITING_ANY},
+    {"broadcast to all", do_broadcast, &EQUAL},
+    {"broadcast to all", do_broadcast, &ANY},
+    {"broadcast to all", do_broadcast, &RISING},
+    {"broadcast to all", do_broadcast, &LOW_RUNNER},
+    {"broadcast to all", do_broadcast, &LAST},
+    {"broadcast to all", do_broadcast, &AMIDST},
+    {"tick, all due", do_tick, &EQUAL},
+    {"tick, all due", do_tick, &ANY},
+    {"tick, all due", do_tick, &RISING},
+    {"tick, all due", do_tick, &REVERSED},
+    {"tick, all due", do_tick, &LOW_RUNNER},
+    {"tick, all due", do_tick, &SPREAD},
+    {"tick, all due", do_tick, &LAST},
+    {"tick, all due", do_tick, &AMIDST},
 };
 
 /* Timing. */
@@ -184,85 +347,95 @@ static double now(void)
 
 static volatile uint64_t sink;
 
-static double round_of(work *w, const struct calls *c, struct bench *b, unsigned times)
+/* The nanoseconds of one time, out of so many batches of a time for each copy. */
+static double round_of(work *w, const struct calls *c, struct bench *b, unsigned batches)
 {
     uint64_t sum = 0;
-    double begun = now();
-    for (unsigned time = 0; time < times; time++)
-        sum += w(c, b);
-    double taken = now() - begun;
+    double taken = 0;
+    for (unsigned batch = 0; batch < batches; batch++) {
+        for (size_t copy = 0; copy < b->copies; copy++)
+            memcpy(b->pool + copy * b->stride, b->scene, b->words * sizeof *b->scene);
+        double begun = now();
+        for (size_t copy = 0; copy < b->copies; copy++)
+            sum += w(c, b, b->pool + copy * b->stride);
+        taken += now() - begun;
+    }
     sink += sum;
-    return taken / times;
+    return taken / batches / (double)b->copies;
 }
 
-static int by_size(const void *a, const void *b)
+/* How many batches make a round of about a quarter of a millisecond. */
+static unsigned batches_of(work *w, struct bench *b)
 {
-    double one = *(const double *)a, other = *(const double *)b;
-    return (one > other) - (one < other);
-}
-
-enum { ROUNDS = 61 };
-
-static double median(double values[ROUNDS])
-{
-    qsort(values, ROUNDS, sizeof *values, by_size);
-    return values[ROUNDS / 2];
-}
-
-/* How many repetitions make a round of about a third of a millisecond. */
-static unsigned repetitions(work *w, struct bench *b)
-{
-    double one = round_of(w, &PLAIN, b, 64);
-    double times = 300e3 / (one > 1 ? one : 1);
-    return times < 16 ? 16 : (unsigned)times;
+    double plain = round_of(w, &PLAIN, b, 1), library = round_of(w, &LIBRARY, b, 1);
+    double batch = (plain > library ? plain : library) * (double)b->copies;
+    return 1 + (unsigned)(250e3 / batch);
 }
 
 /* Both kernels must do the same, or the times mean nothing. */
-static bool agree(const struct row *row, uint16_t processes, bool waiting)
+static bool agree(work *w, struct bench *b)
 {
-    static struct bench one, other;
-    make(&one, processes, waiting);
-    make(&other, processes, waiting);
-    for (int time = 0; time < 5; time++)
-        if (row->work(&PLAIN, &one) != row->work(&LIBRARY, &other))
-            return false;
-    return memcmp(one.area, other.area, sizeof one.area) == 0 &&
-           memcmp(one.buffer, other.buffer, sizeof one.buffer) == 0;
+    static uint16_t area[MAX_WORDS], buffer[MAX_PROCESSES];
+    memcpy(area, b->scene, sizeof area);
+    memset(b->buffer, 0, sizeof b->buffer);
+    uint64_t answer = w(&PLAIN, b, area);
+    memcpy(buffer, b->buffer, sizeof buffer);
+    memcpy(b->pool, b->scene, sizeof area);
+    memset(b->buffer, 0, sizeof b->buffer);
+    return w(&LIBRARY, b, b->pool) == answer && memcmp(b->pool, area, sizeof area) == 0 &&
+           memcmp(b->buffer, buffer, sizeof buffer) == 0;
 }
 
-static void measure(const struct row *row, uint16_t processes, bool waiting)
+enum { PASSES = 8, ROUNDS = 16 };
+
+/* The fastest rounds of a row and a size, in nanoseconds; 0 before the first. */
+struct times {
+    double library, plain;
+};
+
+static void keep_faster(double *best, double time)
 {
-    static struct bench one, other;
-    static double plain[ROUNDS], library[ROUNDS];
-    make(&one, processes, waiting);
-    unsigned times = repetitions(row->work, &one);
-    make(&one, processes, waiting);
-    make(&other, processes, waiting);
+    if (*best == 0 || time < *best)
+        *best = time;
+}
+
+static void measure(struct times *best, work *w, struct bench *b)
+{
+    unsigned batches = batches_of(w, b);
     for (int round = 0; round < ROUNDS; round++) {
-        plain[round] = round_of(row->work, &PLAIN, &one, times);
-        library[round] = round_of(row->work, &LIBRARY, &other, times);
+        keep_faster(&best->plain, round_of(w, &PLAIN, b, batches));
+        keep_faster(&best->library, round_of(w, &LIBRARY, b, batches));
     }
-    double base = median(plain), found = median(library);
-    printf("%-20s %5u %-8s %10.1f %10.1f %7.2f\n", row->name, processes, waiting ? "waiting" : "ready", found, base, found / base);
 }
 
-/* A row of the table for each size, and for both states where both are of interest. */
-static void compare(const struct row *row, const uint16_t *sizes, size_t count)
+static void compare(struct times *best, const struct row *row, uint16_t processes)
 {
-    for (size_t size = 0; size < count; size++) {
-        for (int waiting = 0; waiting <= row->also_waiting; waiting++) {
-            if (!agree(row, sizes[size], waiting)) {
-                fprintf(stderr, "%s at P %u: the kernels differ\n", row->name, sizes[size]);
-                exit(EXIT_FAILURE);
-            }
-            measure(row, sizes[size], waiting);
+    static struct bench b;
+    make(&b, row->scene, processes);
+    if (!agree(row->work, &b)) {
+        fprintf(stderr, "%s, %s, at P %u: the kernels differ\n", row->name, row->scene->name, processes);
+        exit(EXIT_FAILURE);
+    }
+    measure(best, row->work, &b);
+}
+
+enum { COUNT_OF_ROWS = sizeof ROWS / sizeof *ROWS, MAX_SIZES = 32 };
+
+static void print(struct times best[COUNT_OF_ROWS][MAX_SIZES], const uint16_t *sizes, size_t count)
+{
+    printf("%-20s %-18s %5s %10s %10s %7s\n", "call", "scene", "P", "library ns", "plain ns", "ratio");
+    for (size_t row = 0; row < COUNT_OF_ROWS; row++) {
+        for (size_t size = 0; size < count; size++) {
+            struct times t = best[row][size];
+            printf("%-20s %-18s %5u %10.1f %10.1f %7.2f\n", ROWS[row].name, ROWS[row].scene->name, sizes[size], t.library, t.plain,
+                   t.library / t.plain);
         }
     }
 }
 
 int main(int argc, char **argv)
 {
-    enum { MAX_SIZES = 32 };
+    static struct times best[COUNT_OF_ROWS][MAX_SIZES];
     uint16_t sizes[MAX_SIZES] = {3, 50, MAX_PROCESSES};
     size_t count = argc > 1 ? (size_t)argc - 1 : 3;
     for (int arg = 1; arg < argc; arg++) {
@@ -273,8 +446,10 @@ int main(int argc, char **argv)
         }
         sizes[arg - 1] = (uint16_t)size;
     }
-    printf("%-20s %5s %-8s %10s %10s %7s\n", "call", "P", "all", "library ns", "plain ns", "ratio");
-    for (size_t row = 0; row < sizeof ROWS / sizeof *ROWS; row++)
-        compare(&ROWS[row], sizes, count);
+    for (int pass = 0; pass < PASSES; pass++)
+        for (size_t row = 0; row < COUNT_OF_ROWS; row++)
+            for (size_t size = 0; size < count; size++)
+                compare(&best[row][size], &ROWS[row], sizes[size]);
+    print(best, sizes, count);
     return EXIT_SUCCESS;
 }

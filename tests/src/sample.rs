@@ -12,6 +12,17 @@ pub fn small_shape(random: &mut Random) -> Shape {
     }
 }
 
+/// Any number of processes, and at least one condition.
+pub fn wide_shape(random: &mut Random) -> Shape {
+    let most = random.pick(&[12, 60, 1023]);
+    Shape {
+        processes: random.between(1, most),
+        locks: random.between(0, 3),
+        conditions: random.between(1, 255),
+        parks: random.between(0, 3),
+    }
+}
+
 /// A sound state in which the processes lie anywhere.
 pub fn state(random: &mut Random, shape: Shape) -> State {
     let highest = random.between(0, 7);

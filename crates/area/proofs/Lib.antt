@@ -6,4 +6,5 @@ pub mod States
 pub mod Agreeing
 pub mod Puts
 pub mod Records
+pub mod Lent
 pub mod Fields

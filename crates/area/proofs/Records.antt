@@ -19,8 +19,7 @@ use Rattle.model.specs.Machine.{State, model}
 use Rattle.model.proofs.Tests.{inside-bounds}
 use Rattle.ring.specs.Link as link
 use Rattle.ring.specs.Link.{Stands, slot}
-use Rattle.ring.specs.Ring.{Ring}
-use Rattle.ring.proofs.Frame.{Kept}
+use Rattle.ring.specs.Ring.{Ring, Kept}
 use Rattle.area.specs.Layout.{Part, Parts, Slot, word, span, home, recordsAt, size, at, has, Image, Stored}
 use Rattle.area.specs.Layout.Part.{kept, tail, next, locked, waiting}
 use Rattle.area.specs.Layout.Slot.{Processes, LocksConditions, Parks, Clock, Running, Tail, Holder, Link, Flags, Timer}

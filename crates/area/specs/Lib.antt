@@ -4,4 +4,5 @@ pub mod Reading
 pub mod Sound
 pub mod Holds
 pub mod Rings
+pub mod Loose
 pub mod Calls

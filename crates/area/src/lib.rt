@@ -7,13 +7,14 @@ use places::Place;
 use ring::RECORD;
 ghost use mathlib.Core.Path.{_≡_};
 ghost use mathlib.Core.Bool.{true};
+ghost use mathlib.Core.List.{List, _++_};
 ghost use Prim.Native.Nat.{ℕ, _+_, _*_, _/_, _%_, _^_, _<_, _≤_};
 ghost use lib.ListN.{length};
 ghost use Rattle.model.specs.declared.Shape.{Shape};
 ghost use Rattle.model.specs.Queue.{inside, bit};
 ghost use Rattle.model.specs.Queue.Queue.{ready, lock, condition};
 ghost use Rattle.model.specs.Field.{Field, some};
-ghost use Rattle.model.specs.Field.Field.{priority, holder};
+ghost use Rattle.model.specs.Field.Field.{priority, timer, holder};
 ghost use Rattle.model.specs.Rules.{readyOrPark};
 ghost use Rattle.model.specs.Machine.{State, model};
 ghost use Rattle.area.specs.Layout.{Part, Parts, span, at, Lies, locksAt, conditionsAt, recordsAt, size, alter, Image, Stored};
@@ -184,4 +185,26 @@ pub fn set_rank(area: &mut [u16], shape: Shape, p: u16, v: u16, waits: u16)
 {
     store(area, places::priority(shape, p), v);
     store(area, places::waiting(shape, p), waits);
+}
+
+// ---- the records, lent as a part behind what stands in front of them
+
+// p's timer.
+pub fn timer_in(records: &[u16], p: u16) -> u16
+    requires { ⌜ ((n : Shape) × (front : List ℕ) × (t : Parts) × (length front ≡ recordsAt n) × Image n (front ++ now records) t × (inside (n .processes) p ≡ true)) ⌝ }
+    ensures { λ r. ⌜ ((n : Shape) (front : List ℕ) (t : Parts) → length front ≡ recordsAt n → Image n (front ++ now (records .entry)) t → inside (n .processes) p ≡ true → r ≡ t (kept (timer p))) ⌝ }
+{
+    let at = (p as usize - 1) * RECORD + layout::TIMER;
+    records[at]
+}
+
+// p's timer is 0 and its waiting bit clear, which goes with waking.
+pub fn set_awake(records: &mut [u16], p: u16)
+    requires { ⌜ ((n : Shape) × (front : List ℕ) × (t : Parts) × (length front ≡ recordsAt n) × Image n (front ++ now records) t × (inside (n .processes) p ≡ true)) ⌝ }
+    ensures { λ _. ⌜ ((n : Shape) (front : List ℕ) (t : Parts) → length front ≡ recordsAt n → Image n (front ++ now (records .entry)) t → inside (n .processes) p ≡ true → Stored n (front ++ now (records .entry)) (front ++ now (records .exit)) (alter (waiting p) 0 (alter (kept (timer p)) 0 t))) ⌝ }
+{
+    let at = (p as usize - 1) * RECORD;
+    records[at + layout::TIMER] = 0;
+    let flags = records[at + layout::FLAGS];
+    records[at + layout::FLAGS] = with_part(flags, layout::WAITING, layout::BIT, 0);
 }

@@ -4,7 +4,7 @@ use mathlib.Core.Path.{_≡_}
 use mathlib.Core.Bool.{Bool, true, false}
 use mathlib.Core.List.{List}
 use lib.ListN.{length, getD}
-use Rattle.ring.specs.Link.{link, next}
+use Rattle.ring.specs.Link.{Stands, link, next}
 use Rattle.area.specs.Layout.{size}
 use Rattle.area.specs.Reading.{shapeOf}
 
@@ -22,15 +22,16 @@ pub record Counted (ws : List ℕ) : Type 0 where
   pub parks : getD ws 2 0 / 4096 ≤ 8
   pub long : size (shapeOf ws) ≤ length ws
 
--- where t is the tail of ready: running is who comes after it, a process that is not failed
-pub record Follows (ws rs : List ℕ) (P t : ℕ) : Type 0 where
-  pub some : 1 ≤ next rs t
-  pub within : next rs t ≤ P
+-- the tail of ready, if it has one, and who comes after it have records
+abbrev pub Led : List ℕ → List ℕ → Type 0
+Led ws rs = (getD ws 5 0 / 8 ≡ 0 → ⊥) → Stands rs (getD ws 5 0 / 8) × Stands rs (next rs (getD ws 5 0 / 8))
+
+-- where t is the tail of ready: running is who comes after it and is not failed
+pub record Follows (ws rs : List ℕ) (t : ℕ) : Type 0 where
   pub first : getD ws 4 0 ≡ next rs t * 8
   pub clear : link rs (next rs t) / 4 % 2 ≡ 0
 
 -- running is the first of ready, 0 if ready is empty, and is not failed: by the words ws and the records rs
-pub record Runs (ws rs : List ℕ) (P : ℕ) : Type 0 where
+pub record Runs (ws rs : List ℕ) : Type 0 where
   pub nobody : getD ws 5 0 / 8 ≡ 0 → getD ws 4 0 ≡ 0
-  pub tail : getD ws 5 0 / 8 ≤ P
-  pub somebody : (getD ws 5 0 / 8 ≡ 0 → ⊥) → Follows ws rs P (getD ws 5 0 / 8)
+  pub somebody : (getD ws 5 0 / 8 ≡ 0 → ⊥) → Follows ws rs (getD ws 5 0 / 8)

@@ -4,7 +4,7 @@ ghost use mathlib.Core.Path.{_≡_};
 ghost use Prim.Native.Nat.{_+_, _*_, _≤_, _<_};
 ghost use lib.ListN.{length};
 ghost use Rattle.heads.specs.Heads.{heading, headAt, holderIn};
-ghost use Rattle.heads.specs.First.{Decides, Counted, Runs};
+ghost use Rattle.heads.specs.First.{Decides, Counted, Led, Runs};
 
 // The kinds of queues: ready and the parks, the locks, the conditions.
 pub const PLAIN: u16 = 0;
@@ -42,10 +42,10 @@ pub fn counted(area: &[u16]) -> bool
     true
 }
 
-// Whether the running process is the first of ready, 0 if ready is empty, and is not failed.
-pub fn runs(area: &[u16], records: &[u16], processes: u16) -> bool
-    requires { ⌜ (6 ≤ length (now area)) × (processes < 1024) × (3 * processes ≤ length (now records)) ⌝ }
-    ensures { λ r. ⌜ Decides r (Runs (now (area .entry)) (now (records .entry)) processes) ⌝ }
+// Whether the running process is the first of ready, 0 if ready is empty, and is not failed; asked where the ring of ready is in order.
+pub fn runs(area: &[u16], records: &[u16]) -> bool
+    requires { ⌜ (6 ≤ length (now area)) × Led (now area) (now records) ⌝ }
+    ensures { λ r. ⌜ Decides r (Runs (now (area .entry)) (now (records .entry))) ⌝ }
 {
     let w = area[layout::RUNNING];
     let tail = area[layout::READY] / ring::NUMBER;
@@ -55,16 +55,7 @@ pub fn runs(area: &[u16], records: &[u16], processes: u16) -> bool
         }
         return true;
     }
-    if processes < tail {
-        return false;
-    }
     let first = ring::next_of(records, tail);
-    if first == 0 {
-        return false;
-    }
-    if processes < first {
-        return false;
-    }
     if w != first * ring::NUMBER {
         return false;
     }

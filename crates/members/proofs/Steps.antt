@@ -1,11 +1,12 @@
 -- The walk step by step: what each way out of the code says of the functions of specs/, on values. Assumes nothing.
 use Prim.Native.Nat.{ℕ, zero, suc, _-_, _/_, _%_, _≤_, _<_}
+use native.Mathlib.Decide.{ℕ-discrete}
 use native.Mathlib.Omega.{arith}
-use mathlib.Core.Path.{_≡_, refl}
+use mathlib.Core.Path.{_≡_, refl, sym, _∙_}
 use mathlib.Core.Bool.{Bool, true, false, not, and-false}
 use mathlib.Core.List.{List, _∷_}
 use mathlib.Core.Option.{none, some}
-use lib.Dec.{eqb}
+use lib.Dec.{eqb, leb}
 use lib.ListN.{length}
 use borrow.Author.Tests.{lt-ltb, le-ltb, le-leb, lt-leb, eq-eqb, ne-eqb}
 use Rattle.model.specs.Queue.{member}
@@ -34,22 +35,21 @@ module _ (P o p : ℕ) (js : List ℕ) where
 -- ---- whether a record fits
 
 module _ (k b w f t : ℕ) where
+  pub fit-odd : (x : ℕ) → (k ≡ 2 → x ≡ 2) → ((k ≡ 2 → ⊥) → x ≡ 0) → (f ≡ x → ⊥) → false ≡ fitting k b w f t
+  unfolding fitting
+  fit-odd x y z n = elim (ℕ-discrete k 2) [
+    | yes e ↦ rw (eq-eqb k 2 e, ne-eqb f 2 (λ d. n (d ∙ sym (y e))), and-false (leb (w / 8192) b))
+    | no e ↦ rw (ne-eqb k 2 e, ne-eqb f 0 (λ d. n (d ∙ sym (z e))), and-false (leb (w / 8192) b))
+  ]
+
   pub fit-rises : b < w / 8192 → false ≡ fitting k b w f t
   unfolding fitting
   fit-rises h = rw (lt-leb (w / 8192) b h)
 
   module _ (h : w / 8192 ≤ b) where
-    pub fit-idle : k ≡ 2 → (f ≡ 2 → ⊥) → false ≡ fitting k b w f t
-    unfolding fitting
-    fit-idle e n = rw (le-leb (w / 8192) b h, eq-eqb k 2 e, ne-eqb f 2 n)
-
     pub fit-waits : k ≡ 2 → f ≡ 2 → eqb (w % 8) 0 ≡ fitting k b w f t
     unfolding fitting
     fit-waits e d = rw (le-leb (w / 8192) b h, eq-eqb k 2 e, eq-eqb f 2 d)
-
-    pub fit-flagged : (k ≡ 2 → ⊥) → (f ≡ 0 → ⊥) → false ≡ fitting k b w f t
-    unfolding fitting
-    fit-flagged e n = rw (le-leb (w / 8192) b h, ne-eqb k 2 e, ne-eqb f 0 n)
 
     pub fit-timed : (k ≡ 2 → ⊥) → f ≡ 0 → (t ≡ 0 → ⊥) → false ≡ fitting k b w f t
     unfolding fitting

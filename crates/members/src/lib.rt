@@ -55,21 +55,28 @@ fn fresh(processes: usize, holder: usize, p: usize, marks: &[u64; 16]) -> bool
     !met(marks, p)
 }
 
+// The flags of a process in a queue of this kind.
+fn flags_of(kind: u16) -> u16
+    ensures { λ r. ⌜ (kind ≡ 2 → r ≡ 2) × ((kind ≡ 2 → ⊥) → r ≡ 0) ⌝ }
+{
+    if kind == heads::CONDITION {
+        return layout::WAITING;
+    }
+    0
+}
+
 // Whether a record fits a queue of this kind, behind a process of priority `above`.
 fn fits(kind: u16, above: u16, link: u16, flags: u16, timer: u16) -> bool
     ensures { λ r. ⌜ r ≡ fitting kind above link flags timer ⌝ }
 {
+    if flags != flags_of(kind) {
+        return false;
+    }
     if above < ring::priority_field(link) {
         return false;
     }
     if kind == heads::CONDITION {
-        if flags != layout::WAITING {
-            return false;
-        }
         return link % ring::NUMBER == 0;
-    }
-    if flags != 0 {
-        return false;
     }
     if timer != 0 {
         return false;

@@ -10,4 +10,5 @@ pub mod Good
 pub mod Kept
 pub mod History
 pub mod Loops
+pub mod Many
 pub mod Rules

@@ -115,6 +115,21 @@ pub firstOnly-member : (p : ℕ) (xs : List ℕ) → member p (firstOnly xs) ≡
 firstOnly-member p [] e = e
 firstOnly-member p (x ∷ xs) e = let h : eqb x p ≡ true = rw or-false at e in rw h
 
+-- who is left when p has gone was there
+pub remove-member : (x p : ℕ) (xs : List ℕ) → member x (remove p xs) ≡ true → member x xs ≡ true
+remove-member x p xs m = go (eqb-case p x) (member-count x (remove p xs) m)
+  where
+    go : EqCase p x → 1 ≤ count x (remove p xs) → member x xs ≡ true
+    go (holds d e) h = let k : count x (remove p xs) ≡ 0 = rw (← d) (count-remove-same p xs) in let z : ⊥ = omega arith in absurd z
+    go (fails d e) h = let k = count-remove-other x p xs d in counted-member x xs (omega arith)
+
+-- who is there when p has come, and is not p, was there
+pub insert-member : (pr : ℕ → ℕ) (x p : ℕ) (xs : List ℕ) → eqb p x ≡ false → member x (insert pr p xs) ≡ true → member x xs ≡ true
+insert-member pr x p xs z m =
+    let k = member-count x (insert pr p xs) m in
+    let c : count x (insert pr p xs) ≡ bit false + count x xs = count-insert pr x p xs ∙ rw z in
+    counted-member x xs (omega arith)
+
 -- a list without members is empty
 pub nobody : (xs : List ℕ) → ((p : ℕ) → member p xs ≡ false) → xs ≡ []
 nobody [] h = refl
@@ -245,6 +260,23 @@ falling-insert pr p (x ∷ xs) h = go (leb-case (pr p) (pr x)) (falling-insert p
     go : LeCase (pr p) (pr x) → Falling pr (insert pr p xs) → Falling pr (insert pr p (x ∷ xs))
     go (holds d e) r = rw e (all-insert (λ y. pr y ≤ pr x) pr p xs d (h .0), r)
     go (fails d e) r = rw e ((omega arith, all-map (λ y. pr y ≤ pr x) (λ y. pr y ≤ pr p) xs (λ y k. omega arith) (h .0)), h)
+
+-- those who pass a test
+all-filter : (P : ℕ → Type 0) (t : ℕ → Bool) (xs : List ℕ) → All P xs → All P (filter t xs)
+all-filter P t [] h = tt
+all-filter P t (x ∷ xs) h = go (t x) (all-filter P t xs (h .1))
+  where
+    go : (b : Bool) → All P (filter t xs) → All P (cond b (x ∷ filter t xs) (filter t xs))
+    go true r = (h .0, r)
+    go false r = r
+
+pub falling-filter : (pr : ℕ → ℕ) (t : ℕ → Bool) (xs : List ℕ) → Falling pr xs → Falling pr (filter t xs)
+falling-filter pr t [] h = tt
+falling-filter pr t (x ∷ xs) h = go (t x) (falling-filter pr t xs (h .1))
+  where
+    go : (b : Bool) → Falling pr (filter t xs) → Falling pr (cond b (x ∷ filter t xs) (filter t xs))
+    go true r = (all-filter (λ y. pr y ≤ pr x) t xs (h .0), r)
+    go false r = r
 
 -- ---- where a newcomer goes
 

@@ -1,26 +1,25 @@
 -- What code that performs moves one by one needs: what each move leaves of the queues, and how many arrive. By induction on the moves. Assumes nothing.
-use Prim.Native.Nat.{ℕ, zero, suc, _+_, _≤_, _<_}
+use Prim.Native.Nat.{ℕ, zero, suc, _≤_}
 use native.Mathlib.Omega.{arith}
 use mathlib.Core.Path.{_≡_, refl, sym, ap, _∙_}
 use mathlib.Core.Logic.{_≢_}
-use mathlib.Core.Bool.{Bool, true, false, _&&_, cond, and-false, true≢false}
-use mathlib.Core.List.{List, [], _∷_, _++_, append-nil}
+use mathlib.Core.Bool.{Bool, true, false, _&&_, and-false, true≢false}
+use mathlib.Core.List.{List, [], _∷_}
 use lib.Dec.{eqb}
 use lib.ListN.{length}
 use Rattle.model.specs.declared.Shape.{Shape}
-use Rattle.model.specs.Queue.{Queue, upTo, inside, same, member, count, firstOnly, filter, remove, insert, move, toReady}
+use Rattle.model.specs.Queue.{Queue, upTo, member, firstOnly, remove, insert, move, toReady}
 use Rattle.model.specs.Queue.Queue.{ready, lock}
 use Rattle.model.specs.Ledger.{byPriority}
-use Rattle.model.specs.Field.{Fields, put, some}
+use Rattle.model.specs.Field.{some}
 use Rattle.model.specs.Field.Field.{timer}
-use Rattle.model.specs.Rules.{calm, released, due}
+use Rattle.model.specs.Rules.{released, due}
 use Rattle.model.specs.Machine.{State, model, moves, arrivals, waiting}
 use Rattle.model.specs.Valid.{Valid}
-use Rattle.model.proofs.Tests.{not-so, eqb-case, eqb-yes, same-case, stops, same-yes, and-split, not-true, denied, bit-small, inside-bounds}
-use Rattle.model.proofs.Lists.{remove-append, count-append, remove-absent, absent-count, member-here, member-there, nobody, firstOnly-member, filter-member, upTo-member}
-use Rattle.model.proofs.Fields.{calm-other}
+use Rattle.model.proofs.Tests.{not-so, eqb-case, same-case, stops, same-yes, and-split, not-true, denied, inside-bounds}
+use Rattle.model.proofs.Lists.{remove-absent, absent-count, member-here, member-there, nobody, firstOnly-member, filter-member}
 use Rattle.model.proofs.Notes.{by-snoc}
-use Rattle.model.proofs.Places.{sent, moves-append, toReady-append, Stands, stands-move, stands-at, stands-start, waiting-is}
+use Rattle.model.proofs.Places.{moves-append, toReady-append, Stands, stands-at, stands-start, waiting-is}
 
 -- ---- one move
 
@@ -32,13 +31,6 @@ pub move-off : (pr : ℕ → ℕ) (qs : Queue → List ℕ) (x : ℕ) (q r : Que
 move-off pr qs x q r o = rw (stops (same-case q r) o)
 
 module _ (P : ℕ) (qs : Queue → List ℕ) (place : ℕ → Queue) (h : Stands P qs place) where
-  -- who leaves its queue leaves the others there as they stand
-  pub leaves : (q : Queue) (xs : List ℕ) (x : ℕ) (ys : List ℕ) → qs q ≡ xs ++ (x ∷ ys) → remove x (qs q) ≡ xs ++ ys
-  leaves q xs x ys e =
-      let a : count x (xs ++ (x ∷ ys)) ≤ 1 = rw (← e, h x q) (bit-small (inside P x && same (place x) q)) in
-      let b : count x (xs ++ (x ∷ ys)) ≡ count x xs + (1 + count x ys) = count-append x xs (x ∷ ys) ∙ rw (eqb-yes x x refl) in
-      rw (e, remove-append x xs (x ∷ ys), eqb-yes x x refl, remove-absent x xs (omega arith), remove-absent x ys (omega arith))
-
   -- who stands in one queue stands in no other
   pub elsewhere : (p : ℕ) (q r : Queue) → q ≢ r → member p (qs q) ≡ true → member p (qs r) ≡ false
   elsewhere p q r o e = go (member p (qs r)) refl
@@ -46,31 +38,6 @@ module _ (P : ℕ) (qs : Queue → List ℕ) (place : ℕ → Queue) (h : Stands
       go : (b : Bool) → member p (qs r) ≡ b → b ≡ false
       go true d = absurd (o (sym ((stands-at P qs place h p q e) .1) ∙ (stands-at P qs place h p r d) .1))
       go false d = refl
-
-  -- and its leaving changes no other
-  pub untouched : (p : ℕ) (q r : Queue) → q ≢ r → member p (qs q) ≡ true → remove p (qs r) ≡ qs r
-  untouched p q r o e = remove-absent p (qs r) (absent-count p (qs r) (elsewhere p q r o e))
-
--- ---- the first of a queue go to ready, one after the other
-
--- the others are left there
-pub emptying : (P : ℕ) (pr : ℕ → ℕ) (q : Queue) → ready ≢ q → (xs ys : List ℕ) (qs : Queue → List ℕ) (place : ℕ → Queue) → Stands P qs place → qs q ≡ xs ++ ys
-    → moves model pr qs (toReady xs) q ≡ ys
-emptying P pr q o [] ys qs place h e = e
-emptying P pr q o (x ∷ xs) ys qs place h e =
-    emptying P pr q o xs ys (move pr qs x ready) (sent place (x, ready))
-    (stands-move P pr (x, ready) qs place h ((stands-at P qs place h x q (rw e (member-here x (xs ++ ys)))) .0))
-    (move-off pr qs x ready q o ∙ leaves P qs place h q [] x (xs ++ ys) e)
-
--- and no third queue changes
-pub beside : (P : ℕ) (pr : ℕ → ℕ) (q r : Queue) → ready ≢ q → ready ≢ r → q ≢ r → (xs ys : List ℕ) (qs : Queue → List ℕ) (place : ℕ → Queue) → Stands P qs place → qs q ≡ xs ++ ys
-    → moves model pr qs (toReady xs) r ≡ qs r
-beside P pr q r o u w [] ys qs place h e = refl
-beside P pr q r o u w (x ∷ xs) ys qs place h e =
-    let m : member x (qs q) ≡ true = rw e (member-here x (xs ++ ys)) in
-    beside P pr q r o u w xs ys (move pr qs x ready) (sent place (x, ready)) (stands-move P pr (x, ready) qs place h ((stands-at P qs place h x q m) .0))
-    (move-off pr qs x ready q o ∙ leaves P qs place h q [] x (xs ++ ys) e)
-    ∙ move-off pr qs x ready r u ∙ untouched P qs place h x q r w m
 
 -- ---- how many arrive
 
@@ -88,7 +55,7 @@ module _ (P : ℕ) (qs : Queue → List ℕ) (place : ℕ → Queue) (h : Stands
   pub released-moved : (l : ℕ) → arrivals (qs ready) (released qs l) ≡ length (firstOnly (qs (lock l)))
   released-moved l = first-moved (lock l) (λ e. let w : _≡_ {A = ℕ} 0 1 = cc in omega arith)
 
--- ---- Start's and Tick's loops: process k + 1 after processes 1 to k
+-- ---- Start's loop: process k + 1 after processes 1 to k
 
 start-moves : (pr : ℕ → ℕ) (qs : Queue → List ℕ) (k : ℕ) → moves model pr qs (toReady (upTo (suc k))) ≡ move pr (moves model pr qs (toReady (upTo k))) (suc k) ready
 start-moves pr qs k = rw (toReady-append (upTo k) (suc k ∷ []), moves-append pr (toReady (upTo k)) ((suc k, ready) ∷ []) qs)
@@ -114,45 +81,6 @@ start-ready pr h (suc k) =
     ∙ move-to pr qs (suc k) ready
     ∙ ap (insert pr (suc k)) (remove-absent (suc k) (qs ready) (absent-count (suc k) (qs ready) (start-out pr k ready)) ∙ start-ready pr h k)
     ∙ sym (by-snoc pr 7 (suc k) (upTo k) (h (suc k)))
-
-filter-append : (t : ℕ → Bool) (xs ys : List ℕ) → filter t (xs ++ ys) ≡ filter t xs ++ filter t ys
-filter-append t [] ys = refl
-filter-append t (x ∷ xs) ys = rw (filter-append t xs ys) (go (t x))
-  where
-    go : (b : Bool) → cond b (x ∷ (filter t xs ++ filter t ys)) (filter t xs ++ filter t ys) ≡ cond b (x ∷ filter t xs) (filter t xs) ++ filter t ys
-    go true = refl
-    go false = refl
-
-calm-append : (xs ys : List ℕ) (s : Fields) → calm (xs ++ ys) s ≡ calm ys (calm xs s)
-calm-append [] ys s = refl
-calm-append (x ∷ xs) ys s = calm-append xs ys (put (timer x) 0 s)
-
-module _ (t : ℕ → Bool) (k : ℕ) where
-  pub tick-moves : (pr : ℕ → ℕ) (qs : Queue → List ℕ) → moves model pr qs (toReady (filter t (upTo (suc k))))
-      ≡ cond (t (suc k)) (move pr (moves model pr qs (toReady (filter t (upTo k)))) (suc k) ready) (moves model pr qs (toReady (filter t (upTo k))))
-  tick-moves pr qs = rw (filter-append t (upTo k) (suc k ∷ [])) (go (t (suc k)))
-    where
-      before : Queue → List ℕ
-      before = moves model pr qs (toReady (filter t (upTo k)))
-
-      go : (b : Bool) → moves model pr qs (toReady (filter t (upTo k) ++ cond b (suc k ∷ []) [])) ≡ cond b (move pr before (suc k) ready) before
-      go true = rw (toReady-append (filter t (upTo k)) (suc k ∷ []), moves-append pr (toReady (filter t (upTo k))) ((suc k, ready) ∷ []) qs)
-      go false = rw append-nil
-
-  pub tick-calm : (s : Fields) → calm (filter t (upTo (suc k))) s ≡ cond (t (suc k)) (put (timer (suc k)) 0 (calm (filter t (upTo k)) s)) (calm (filter t (upTo k)) s)
-  tick-calm s = rw (filter-append t (upTo k) (suc k ∷ [])) (go (t (suc k)))
-    where
-      go : (b : Bool) → calm (filter t (upTo k) ++ cond b (suc k ∷ []) []) s ≡ cond b (put (timer (suc k)) 0 (calm (filter t (upTo k)) s)) (calm (filter t (upTo k)) s)
-      go true = calm-append (filter t (upTo k)) (suc k ∷ []) s
-      go false = rw append-nil
-
-  -- the timers of later processes stand as they were
-  pub later-timer : (s : Fields) (p : ℕ) → k < p → calm (filter t (upTo k)) s (timer p) ≡ s (timer p)
-  later-timer s p h = calm-other p (filter t (upTo k)) s (go (member p (filter t (upTo k))) refl)
-    where
-      go : (b : Bool) → member p (filter t (upTo k)) ≡ b → b ≡ false
-      go true e = let w = inside-bounds k p (upTo-member k p ((filter-member t p (upTo k) e) .0)) in let z : ⊥ = omega arith in absurd z
-      go false e = refl
 
 -- ---- Tick wakes only who waits
 

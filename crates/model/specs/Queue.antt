@@ -115,6 +115,11 @@ abbrev pub insert : (ℕ → ℕ) → ℕ → List ℕ → List ℕ
 insert pr p [] = p ∷ []
 insert pr p (x ∷ xs) = cond (leb (pr p) (pr x)) (x ∷ insert pr p xs) (p ∷ x ∷ xs)
 
+-- ps join, one after the other
+abbrev pub joined : (ℕ → ℕ) → List ℕ → List ℕ → List ℕ
+joined pr [] xs = xs
+joined pr (p ∷ ps) xs = joined pr ps (insert pr p xs)
+
 -- what queue r holds when p has left its queue and joined q
 abbrev pub move : (ℕ → ℕ) → (Queue → List ℕ) → ℕ → Queue → Queue → List ℕ
 move pr qs p q r = cond (same q r) (insert pr p (remove p (qs r))) (remove p (qs r))

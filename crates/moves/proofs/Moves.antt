@@ -1,69 +1,32 @@
 -- A process moves from one queue of a state to another: it leaves, takes its priority and waiting bit, and joins. The rings are then those of
 -- the state in which it has moved, each process stands in one of them, once, and so the words are the ones that this state prescribes.
 -- Assumes nothing.
-use Prim.Native.Nat.{ℕ, _-_, _≤_, _<_}
+use Prim.Native.Nat.{ℕ, _<_}
 use native.Mathlib.Omega.{arith}
 use mathlib.Core.Path.{_≡_, refl, sym, ap, _∙_, subst, fun-ext}
-use mathlib.Core.Bool.{true, false, _&&_}
+use mathlib.Core.Bool.{true, false}
 use mathlib.Core.Logic.{_≢_}
 use mathlib.Core.List.{List, [], _∷_}
-use lib.ListN.{length, drop, length-drop}
 use Rattle.model.specs.declared.Shape.{Shape}
-use Rattle.model.specs.Queue.{Queue, inside, exists, bit, member, count, remove, insert, move, isCondition}
+use Rattle.model.specs.Queue.{Queue, inside, exists, bit, member, count, remove, insert, move, Falling, isCondition}
 use Rattle.model.specs.Field.{Field, Fields, put, priorities}
 use Rattle.model.specs.Field.Field.{priority}
-use Rattle.model.specs.Machine as machine
 use Rattle.model.specs.Machine.{State, model}
 use Rattle.model.specs.Valid.{room, Placed}
 use Rattle.model.proofs.Tests.{holds, fails, SameCase, same-case, EqCase, eqb-case, PutCase, put-case, put-away, bit-small, denied}
-use Rattle.model.proofs.Lists.{SameOff, falling-remove, remove-absent, absent-count, count-remove-same, member-bit}
+use Rattle.model.proofs.Lists.{SameOff, falling-remove, falling-insert, remove-absent, remove-member, insert-member, absent-count, count-remove-same, member-bit}
 use Rattle.model.proofs.Places as places
-use Rattle.model.proofs.Places.{stands-move, waiting-is, falling-moves}
+use Rattle.model.proofs.Places.{stands-move, falling-moves}
 use Rattle.model.proofs.Simulation.{lead}
-use Rattle.ring.specs.Link as link
-use Rattle.ring.specs.Ring.{Linked}
-use Rattle.ring.proofs.Rings.{ring-same}
-use Rattle.area.specs.Layout.{Part, Parts, alter, recordsAt, size, has, home, Image, Stored}
-use Rattle.area.specs.Layout.Part.{kept, tail, next, locked, waiting}
-use Rattle.area.specs.State.{last, queues, nextIn, laid}
-use Rattle.area.specs.Holds.{Holds, Becomes, Moves, with, sent}
-use Rattle.area.specs.Rings.{records, Rings, swap, ranks, Relinked, Leaves, Joins}
-use Rattle.area.proofs.Stores.{alter-here, alter-away, image-ext}
-use Rattle.area.proofs.Rings.{ring-ext, member-inside, one-queue, rings-laid}
-use Rattle.area.proofs.Records.{next-said, queue-ring}
-
--- a state's rings
-pub rings-of : {n : Shape} {ws : List ℕ} {s : State model} → Holds n ws s → Rings n ws (laid n s) (s .queues)
-rings-of {n} {s} H = record {
-  image = H .image;
-  tails = λ q h. refl;
-  rings = queue-ring H;
-  own = λ q x m. member-inside n s (H .placed) x q m;
-  one = λ q r x m k. one-queue n s (H .placed) x q r m k;
-}
-
--- a change beyond tails and nexts keeps the rings
-pub rings-stored : {n : Shape} {old new : List ℕ} {t : Parts} {qs : Queue → List ℕ} (u : Parts) → Rings n old t qs → Stored n old new u
-    → ((q : Queue) → u (tail q) ≡ t (tail q)) → ((p : ℕ) → u (next p) ≡ t (next p)) → Rings n new u qs
-rings-stored {n} {old} {new} {t} {qs} u R st same-tail same-next = record {
-  image = st .image;
-  tails = λ q h. same-tail q ∙ R .tails q h;
-  rings = λ q h. ring-same (records n old) (records n new) (last (qs q)) (qs q) same-length
-      (λ x m. next-said n new u (st .image) x (R .own q x m) ∙ same-next x ∙ sym (next-said n old t (R .image) x (R .own q x m))) (R .rings q h);
-  own = R .own;
-  one = R .one;
-}
-  where
-    same-length : length (records n old) ≤ length (records n new)
-    same-length =
-        let a = length-drop (size n) old in
-        let b = length-drop (size n) new in
-        let c : length (drop (size n) new) ≡ length (drop (size n) old) = ap length (st .beyond) in
-        let d = R .image .long in
-        let e = st .image .long in
-        let f = length-drop (recordsAt n) old in
-        let g = length-drop (recordsAt n) new in
-        omega arith
+use Rattle.area.specs.Layout.{Parts, alter, Image, Stored}
+use Rattle.area.specs.Layout.Part.{kept, waiting}
+use Rattle.area.specs.State.{laid}
+use Rattle.area.specs.Holds.{Becomes, Moves, with, sent}
+use Rattle.area.specs.Rings.{swap, ranks, Relinked, Leaves, Joins}
+use Rattle.area.specs.Loose.{Loose}
+use Rattle.area.proofs.Stores.{alter-here}
+use Rattle.area.proofs.Rings.{one-queue}
+use Rattle.moves.proofs.Loose.{loose-of, loose-relinked, loose-put, settled}
 
 module _ {n : Shape} {ws : List ℕ} {at-from at-to p waits : ℕ} (m : Moves n ws at-from at-to p waits) where
   pub move-waits : waits < 2
@@ -74,7 +37,7 @@ module _ {n : Shape} {ws : List ℕ} {at-from at-to p waits : ℕ} (m : Moves n 
     parts = laid n (m .state);
     queues = m .state .queues;
     queue = m .from;
-    rings = rings-of (m .holds);
+    rings = loose-of (m .holds) .rings;
     given = m .given-from;
     here = m .here-from;
     stood = m .stood;
@@ -108,57 +71,59 @@ module _ {n : Shape} {ws : List ℕ} {at-from at-to p waits : ℕ} (m : Moves n 
   pub without-out : (q : Queue) → member p (without q) ≡ false
   without-out q = rw (without-is q) (member-bit p (remove p (s .queues q)) false (count-remove-same p (s .queues q)))
 
-  -- ---- it takes its priority and its waiting bit
+  -- who is left of a queue stood there
+  without-member : (q : Queue) (x : ℕ) → member x (without q) ≡ true → member x (s .queues q) ≡ true
+  without-member q x k = remove-member x p (s .queues q) (rw (without-is q) at k)
+
+  pub off : SameOff p (priorities (s .fields)) (priorities (s′ .fields))
+  off x h = sym (put-away (priority p) v (s .fields) (priority x) (λ d. h (cc)))
+
+  pub falls-without : (q : Queue) → Falling (priorities (s′ .fields)) (without q)
+  falls-without q = rw (without-is q) (falling-remove (priorities (s .fields)) (priorities (s′ .fields)) p (s .queues q) off (m .holds .placed .falls q))
 
   module _ {ws₁ ws₂ : List ℕ} (L : Relinked n ws ws₁ (laid n s) (s .queues) (m .from) (remove p (s .queues (m .from))))
       (W : (t : Parts) → Image n ws₁ t → Stored n ws₁ ws₂ (alter (waiting p) waits (alter (kept (priority p)) v t))) where
-    abbrev t₂ : Parts
-    t₂ = alter (waiting p) waits (alter (kept (priority p)) v (L .parts))
+    abbrev loose₁ : Loose n ws ws₁ (s .fields) without
+    loose₁ = loose-relinked (m .from) (remove p (s .queues (m .from))) (loose-of (m .holds))
+        (λ x k. loose-of (m .holds) .waits (m .from) x (remove-member x p (s .queues (m .from)) k))
+        (falling-remove (priorities (s .fields)) (priorities (s .fields)) p (s .queues (m .from)) (λ x h. refl) (m .holds .placed .falls (m .from)))
+        L
 
-    -- the fields are those of the state after the move
-    pub kept-are : (f : Field) → t₂ (kept f) ≡ s′ .fields f
-    kept-are f = go (put-case (priority p) f)
-      where
-        go : PutCase (priority p) f → t₂ (kept f) ≡ put (priority p) v (s .fields) f
-        go (holds e z) = rw (z, ← e) (alter-here (kept (priority p)) v (L .parts))
-        go (fails e z) = rw z (alter-away (kept (priority p)) (kept f) v (L .parts) (λ d. e (cc)) ∙ L .others (kept f) refl)
+    -- ---- it takes its priority and its waiting bit
 
-    pub ranks-are : ranks t₂ ≡ priorities (s′ .fields)
-    ranks-are = fun-ext (λ x. kept-are (priority x))
+    abbrev loose₂ : Loose n ws ws₂ (s′ .fields) without
+    loose₂ = loose-put (priority p) v p waits loose₁ (λ l e. let z : _≡_ {A = ℕ} 0 1 = cc in omega arith) without-out falls-without (W (L .parts) (L .rings .image))
 
-    pub off : SameOff p (priorities (s .fields)) (priorities (s′ .fields))
-    off x h = sym (put-away (priority p) v (s .fields) (priority x) (λ d. h (cc)))
-
-    pub stored₂ : Stored n ws₁ ws₂ t₂
-    stored₂ = W (L .parts) (L .rings .image)
+    pub ranks-are : ranks (loose₂ .parts) ≡ priorities (s′ .fields)
+    ranks-are = fun-ext (λ x. loose₂ .fields (priority x))
 
     abbrev pub move-joins : Joins n ws₂ at-to p
     move-joins = record {
-      parts = t₂;
+      parts = loose₂ .parts;
       queues = without;
       queue = m .to;
-      rings = rings-stored t₂ (L .rings) stored₂ (λ q. refl) (λ x. refl);
+      rings = loose₂ .rings;
       given = m .given-to;
       here = m .here-to;
       process = m .process;
       out = without-out;
-      falls = rw (ranks-are, without-is (m .to)) (falling-remove (priorities (s .fields)) (priorities (s′ .fields)) p (s .queues (m .to)) off (m .holds .placed .falls (m .to)));
+      falls = rw ranks-are (falls-without (m .to));
     }
 
     -- ---- it joins
 
-    module _ {ws₃ : List ℕ} (J : Relinked n ws₂ ws₃ t₂ without (m .to) (insert (ranks t₂) p (without (m .to)))) where
-      joined-is : (q : Queue) → swap without (m .to) (insert (ranks t₂) p (without (m .to))) q ≡ s′ .queues q
+    module _ {ws₃ : List ℕ} (J : Relinked n ws₂ ws₃ (loose₂ .parts) without (m .to) (insert (ranks (loose₂ .parts)) p (without (m .to)))) where
+      abbrev there : List ℕ
+      there = insert (priorities (s′ .fields)) p (without (m .to))
+
+      joined-is : (q : Queue) → swap without (m .to) there q ≡ s′ .queues q
       joined-is q = go (same-case (m .to) q)
         where
-          go : SameCase (m .to) q → swap without (m .to) (insert (ranks t₂) p (without (m .to))) q ≡ s′ .queues q
-          go (holds e z) =
-              rw z
-              (ap {A = ℕ → ℕ} (λ pr. insert pr p (without (m .to))) ranks-are
-              ∙ ap (insert (priorities (s′ .fields)) p) (without-is (m .to) ∙ ap {A = Queue} (λ o. remove p (s .queues o)) e))
+          go : SameCase (m .to) q → swap without (m .to) there q ≡ s′ .queues q
+          go (holds e z) = rw z (ap (insert (priorities (s′ .fields)) p) (without-is (m .to) ∙ ap {A = Queue} (λ o. remove p (s .queues o)) e))
           go (fails e z) = rw z (without-is q)
 
-      abbrev placed′ : Placed n s′
+      placed′ : Placed n s′
       placed′ = record {
         counts = m .holds .placed .counts;
         range = λ f. range-at f (put-case (priority p) f);
@@ -176,34 +141,18 @@ module _ {n : Shape} {ws : List ℕ} {at-from at-to p waits : ℕ} (m : Moves n 
           real-at x h (holds e z) = rw z (m .given-to)
           real-at x h (fails e z) = rw z (m .holds .placed .real x h)
 
-      nexts-are : (x : ℕ) → inside (n .processes) x ≡ true → J .parts (next x) ≡ nextIn (s′ .queues) (queues n) x
-      nexts-are = rings-laid n s′ placed′ (λ x. J .parts (next x)) (λ q h. ring-at q h)
-        where
-          ring-at : (q : Queue) → exists n q ≡ true → Linked (λ x. J .parts (next x)) (last (s′ .queues q)) (s′ .queues q)
-          ring-at q h = rw (← joined-is q)
-              (ring-ext (link.next (records n ws₃)) (λ x. J .parts (next x)) (swap without (m .to) (insert (ranks t₂) p (without (m .to))) q) (λ x k. next-said n ws₃ (J .parts) (J .rings .image) x (J .rings .own q x k)) (J .rings .rings q h .linked))
-
-      waits-are : (x : ℕ) → inside (n .processes) x ≡ true → EqCase p x → J .parts (waiting x) ≡ bit (machine.waiting n (s′ .queues) x)
-      waits-are x h c = J .others (waiting x) refl ∙ go c ∙ ap bit (sym (waiting-is n (s′ .queues) (placed′ .place) (placed′ .once) x (placed′ .real x)))
-        where
-          go : EqCase p x → t₂ (waiting x) ≡ bit (inside (n .processes) x && isCondition (places.sent (m .holds .placed .place) (p, m .to) x))
-          go (holds e z) = rw (z, ← e, m .process) (alter-here (waiting p) waits (alter (kept (priority p)) v (L .parts)) ∙ m .waits-there)
-          go (fails e z) =
-              rw z (alter-away (waiting p) (waiting x) waits (alter (kept (priority p)) v (L .parts)) (λ d. e (cc)) ∙ L .others (waiting x) refl
-              ∙ ap bit (waiting-is n (s .queues) (m .holds .placed .place) (m .holds .placed .once) x (m .holds .placed .real x)))
-
-      parts-are : (f : Part) → has n (home f) ≡ true → J .parts f ≡ laid n s′ f
-      parts-are (kept f) h = J .others (kept f) refl ∙ kept-are f
-      parts-are (tail q) h = J .rings .tails q h ∙ ap last (joined-is q)
-      parts-are (next x) h = nexts-are x h
-      parts-are (locked l) h = J .others (locked l) refl ∙ L .others (locked l) refl
-      parts-are (waiting x) h = waits-are x h (eqb-case p x)
+      waits-there : (x : ℕ) → member x there ≡ true → EqCase p x → loose₂ .parts (waiting x) ≡ bit (isCondition (m .to))
+      waits-there x k (holds e z) = rw (← e) (alter-here (waiting p) waits (alter (kept (priority p)) v (L .parts)) ∙ m .waits-there)
+      waits-there x k (fails e z) = loose₂ .waits (m .to) x (insert-member (priorities (s′ .fields)) x p (without (m .to)) z k)
 
       pub moved : Becomes n ws ws₃ s′
-      moved = record {
-        holds = record { placed = placed′; image = image-ext n ws₃ (J .parts) (laid n s′) (J .stored .image) parts-are };
-        beyond = J .stored .beyond ∙ stored₂ .beyond ∙ L .stored .beyond;
-      }
+      moved =
+          settled s′ placed′
+          (subst (Loose n ws ws₃ (s′ .fields)) (fun-ext joined-is)
+          (loose-relinked (m .to) there loose₂
+          (λ x k. waits-there x k (eqb-case p x))
+          (falling-insert (priorities (s′ .fields)) p (without (m .to)) (falls-without (m .to)))
+          (subst (λ (pr : ℕ → ℕ). Relinked n ws₂ ws₃ (loose₂ .parts) without (m .to) (insert pr p (without (m .to)))) ranks-are J)))
 
 -- ---- with the priority that it has
 

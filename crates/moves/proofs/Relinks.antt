@@ -1,7 +1,6 @@
 -- One ring becomes another list, and its tail word is written: the other rings stay, since the change touches the links of this one alone.
 -- Assumes nothing.
 use Prim.Native.Nat.{ℕ, _+_, _-_, _*_, _/_, _%_, _<_}
-use native.Mathlib.Decide.{ℕ-discrete}
 use native.Mathlib.Omega.{arith}
 use borrow.Rule.Slice.PartMut.{midOf, putMid}
 use mathlib.Core.Path.{_≡_, refl, sym, ap, _∙_, subst}
@@ -12,14 +11,14 @@ use lib.Dec.{eqb}
 use lib.ListN.{length, getD, drop, take, set, length-append}
 use lib.Seq.{drop-set-lt, length-take-le, drop-append-seam}
 use Rattle.model.specs.declared.Shape.{Shape}
-use Rattle.model.specs.Queue.{Queue, inside, exists, bit, member, remove, insert, Falling}
+use Rattle.model.specs.Queue.{Queue, inside, exists, member, remove, insert, Falling}
 use Rattle.model.specs.Queue.Queue.{ready, park, lock, condition}
-use Rattle.model.proofs.Tests.{holds, fails, SameCase, same-case, EqCase, eqb-case, eqb-no, inside-bounds, denied}
-use Rattle.model.proofs.Lists.{member-count, counted-member, count-remove-other, count-insert}
+use Rattle.model.proofs.Tests.{holds, fails, SameCase, same-case, EqCase, eqb-case, inside-bounds, denied}
+use Rattle.model.proofs.Lists.{remove-member, insert-member}
 use Rattle.ring.specs.Link as link
 use Rattle.ring.specs.Link.{relink, Stands}
-use Rattle.ring.specs.Ring.{Ring, Left, Joined}
-use Rattle.ring.proofs.Frame.{Kept, left-kept, left-ring, joined-kept, joined-ring}
+use Rattle.ring.specs.Ring.{Ring, Kept, Left, Joined}
+use Rattle.ring.proofs.Frame.{left-kept, left-ring, joined-kept, joined-ring}
 use Rattle.ring.proofs.Rings.{ring-tail-small}
 use Rattle.ring.proofs.Places.{falling-agree, insert-agree}
 use Rattle.area.specs.Layout.{Part, Parts, alter, recordsAt, at, Stored}
@@ -59,11 +58,13 @@ module _ (n : Shape) (ws : List ℕ) (t : Parts) (qs : Queue → List ℕ) (q : 
       ap (λ k. drop k (take (recordsAt n) ws ++ r)) (sym (length-take-le (recordsAt n) ws (omega (arith, R .image .long))))
       ∙ drop-append-seam (take (recordsAt n) ws) r
 
-  -- the ring of q becomes xs: p apart, who may come or go, its members are those that stood there
-  module _ (p : ℕ) (xs r zs : List ℕ) (u i v : ℕ)
-      (process : inside (n .processes) p ≡ true)
-      (alone : (o : Queue) → member p (qs o) ≡ true → q ≡ o)
-      (from : (x : ℕ) → member x xs ≡ true → x ≢ p → member x (qs q) ≡ true)
+  pub back-set : (r : List ℕ) (i v : ℕ) → i ≡ at n (Tail q) → records n (set (take (recordsAt n) ws ++ r) i v) ≡ r
+  back-set r i v here = drop-set-lt (recordsAt n) (take (recordsAt n) ws ++ r) i v (let k = tail-front n q given in omega arith) ∙ back r
+
+  -- the ring of q becomes xs, who are processes and stand in no other
+  module _ (xs r zs : List ℕ) (u i v : ℕ)
+      (own : (x : ℕ) → member x xs ≡ true → inside (n .processes) x ≡ true)
+      (alone : (x : ℕ) (o : Queue) → member x xs ≡ true → member x (qs o) ≡ true → q ≡ o)
       (touched : (x : ℕ) → member x zs ≡ true → inside (n .processes) x ≡ true)
       (K : Kept (records n ws) r zs)
       (ring : Ring r u xs)
@@ -76,20 +77,6 @@ module _ (n : Shape) (ws : List ℕ) (t : Parts) (qs : Queue → List ℕ) (q : 
 
     abbrev parts : Parts
     parts = alter (tail q) u (nexted (link.next r) t)
-
-    swapped : (o : Queue) (x : ℕ) → x ≢ p → member x (swap qs q xs o) ≡ true → member x (qs o) ≡ true
-    swapped o x h = go (same-case q o)
-      where
-        go : SameCase q o → member x (swap qs q xs o) ≡ true → member x (qs o) ≡ true
-        go (holds e z) m = subst (λ (y : Queue). member x (qs y) ≡ true) e (from x (rw z at m) h)
-        go (fails e z) m = rw z at m
-
-    there : (o : Queue) → member p (swap qs q xs o) ≡ true → q ≡ o
-    there o = go (same-case q o)
-      where
-        go : SameCase q o → member p (swap qs q xs o) ≡ true → q ≡ o
-        go (holds e z) m = e
-        go (fails e z) m = alone o (rw z at m)
 
     stored-relink : Stored n ws (set front i v) parts
     stored-relink =
@@ -106,8 +93,8 @@ module _ (n : Shape) (ws : List ℕ) (t : Parts) (qs : Queue → List ℕ) (q : 
         image = stored-relink .image;
         tails = λ o h. tails-at o h (same-case q o);
         rings = λ o h. rings-at o h (same-case q o);
-        own = λ o x m. own-at o x m (ℕ-discrete x p);
-        one = λ a b x m k. one-at a b x m k (ℕ-discrete x p);
+        own = λ o x m. own-at o x m (same-case q o);
+        one = λ a b x m k. one-at a b x m k (same-case q a) (same-case q b);
       };
     }
       where
@@ -122,111 +109,129 @@ module _ (n : Shape) (ws : List ℕ) (t : Parts) (qs : Queue → List ℕ) (q : 
         tails-at o h (holds e z) = rw (z, ← e) (alter-here (tail q) u (nexted (link.next r) t) ∙ sym (ring .ends))
         tails-at o h (fails e z) = rw z (alter-away (tail q) (tail o) u (nexted (link.next r) t) (λ d. e (cc)) ∙ R .tails o h)
 
-        same-records : records n (set front i v) ≡ r
-        same-records = drop-set-lt (recordsAt n) front i v (let k = tail-front n q given in omega arith) ∙ back r
-
         rings-at : (o : Queue) → exists n o ≡ true → SameCase q o → Ring (records n (set front i v)) (last (swap qs q xs o)) (swap qs q xs o)
-        rings-at o h (holds e z) = rw (same-records, z) (subst (λ (y : ℕ). Ring r y xs) (sym (ring .ends)) ring)
-        rings-at o h (fails e z) = rw (same-records, z) (others o h e)
+        rings-at o h (holds e z) = rw (back-set r i v here, z) (subst (λ (y : ℕ). Ring r y xs) (sym (ring .ends)) ring)
+        rings-at o h (fails e z) = rw (back-set r i v here, z) (others o h e)
 
-        own-at : (o : Queue) (x : ℕ) → member x (swap qs q xs o) ≡ true → Dec (x ≡ p) → inside (n .processes) x ≡ true
-        own-at o x m (yes e) = rw e process
-        own-at o x m (no e) = R .own o x (swapped o x e m)
+        own-at : (o : Queue) (x : ℕ) → member x (swap qs q xs o) ≡ true → SameCase q o → inside (n .processes) x ≡ true
+        own-at o x m (holds e z) = own x (rw z at m)
+        own-at o x m (fails e z) = R .own o x (rw z at m)
 
-        one-at : (a b : Queue) (x : ℕ) → member x (swap qs q xs a) ≡ true → member x (swap qs q xs b) ≡ true → Dec (x ≡ p) → a ≡ b
-        one-at a b x m k (yes e) = sym (there a (rw e at m)) ∙ there b (rw e at k)
-        one-at a b x m k (no e) = R .one a b x (swapped a x e m) (swapped b x e k)
+        one-at : (a b : Queue) (x : ℕ) → member x (swap qs q xs a) ≡ true → member x (swap qs q xs b) ≡ true → SameCase q a → SameCase q b → a ≡ b
+        one-at a b x m k (holds e z) (holds d y) = sym e ∙ d
+        one-at a b x m k (holds e z) (fails d y) = sym e ∙ alone x b (rw z at m) (rw y at k)
+        one-at a b x m k (fails e z) (holds d y) = sym (alone x a (rw y at k) (rw z at m)) ∙ d
+        one-at a b x m k (fails e z) (fails d y) = R .one a b x (rw z at m) (rw y at k)
+
+-- ---- the records, lent
+
+pub lent : (n : Shape) {a : ℕ} (ws : List ℕ) → a ≡ recordsAt n → midOf a (length ws - a) ws ≡ records n ws
+lent n {a} ws e = part-lent a ws ∙ ap (λ k. drop k ws) e
+
+-- the tail that its word says
+pub tail-read : {n : Shape} {ws : List ℕ} {t : Parts} {qs : Queue → List ℕ} (q : Queue) {i w : ℕ} → Rings n ws t qs → exists n q ≡ true → i ≡ at n (Tail q) → w ≡ getD ws i 0 / 8 % 1024 → w ≡ last (qs q)
+tail-read {n} {ws} {t} q {i} R given here reads = reads ∙ load-at n ws t (R .image) (tail q) i given here 8 1024 refl refl ∙ R .tails q given
+
+-- a queue is the ring of its tail there
+pub lent-ring : {n : Shape} {ws : List ℕ} {t : Parts} {qs : Queue → List ℕ} (q : Queue) {i a w : ℕ} → Rings n ws t qs → exists n q ≡ true → i ≡ at n (Tail q) → a ≡ recordsAt n → w ≡ getD ws i 0 / 8 % 1024
+    → Ring (midOf a (length ws - a) ws) w (qs q)
+lent-ring {n} {ws} q R given here e reads = rw (lent n ws e, tail-read q R given here reads) (R .rings q given)
 
 -- ---- p leaves
 
 module _ {n : Shape} {ws : List ℕ} {i p : ℕ} (j : Leaves n ws i p) (a w : ℕ) (at-records : a ≡ recordsAt n) (reads : w ≡ getD ws i 0 / 8 % 1024) where
-  leaves-tail : w ≡ last (j .queues (j .queue))
-  leaves-tail = reads ∙ load-at n ws (j .parts) (j .rings .image) (tail (j .queue)) i (j .given) (j .here) 8 1024 refl refl ∙ j .rings .tails (j .queue) (j .given)
-
   pub leaves-ring : Ring (midOf a (length ws - a) ws) w (j .queues (j .queue))
-  leaves-ring = rw (part-lent a ws, at-records, leaves-tail) (j .rings .rings (j .queue) (j .given))
+  leaves-ring = lent-ring (j .queue) (j .rings) (j .given) (j .here) at-records reads
 
   pub left-relinks : member p (j .queues (j .queue)) ≡ true → (r : List ℕ) (u v : ℕ) → Left (midOf a (length ws - a) ws) r w p u (j .queues (j .queue)) → v ≡ relink (getD ws i 0) u
       → Relinked n ws (set (putMid a (length ws - a) ws r) i v) (j .parts) (j .queues) (j .queue) (remove p (j .queues (j .queue)))
   left-relinks stands r u v l e =
       rw (part-back a ws r, at-records)
-      (relink-ring n ws (j .parts) (j .queues) (j .queue) (j .rings) (j .given) p (remove p xs) r xs u i v
-      (j .rings .own (j .queue) p stands)
-      (λ o m. j .rings .one (j .queue) o p stands m)
-      (λ x m h. stays x xs m h)
+      (relink-ring n ws (j .parts) (j .queues) (j .queue) (j .rings) (j .given) (remove p xs) r xs u i v
+      (λ x m. j .rings .own (j .queue) x (stays x m))
+      (λ x o m k. j .rings .one (j .queue) o x (stays x m) k)
       (λ x m. j .rings .own (j .queue) x m)
-      (subst (λ (z : List ℕ). Kept z r xs) lent (left-kept p xs leaves-ring stands l))
+      (subst (λ (z : List ℕ). Kept z r xs) (lent n ws at-records) (left-kept p xs leaves-ring stands l))
       (l .ring)
-      (λ o h d. left-ring p xs leaves-ring stands l (last (j .queues o)) (j .queues o) (apart o d) (subst (λ (z : List ℕ). Ring z (last (j .queues o)) (j .queues o)) (sym lent) (j .rings .rings o h)))
+      (λ o h d. left-ring p xs leaves-ring stands l (last (j .queues o)) (j .queues o) (apart o d) (subst (λ (z : List ℕ). Ring z (last (j .queues o)) (j .queues o)) (sym (lent n ws at-records)) (j .rings .rings o h)))
       (ring-tail-small (remove p xs) (l .ring)) (j .here) e)
     where
       xs : List ℕ
       xs = j .queues (j .queue)
 
-      lent : midOf a (length ws - a) ws ≡ records n ws
-      lent = part-lent a ws ∙ ap (λ k. drop k ws) at-records
-
-      stays : (x : ℕ) (ys : List ℕ) → member x (remove p ys) ≡ true → x ≢ p → member x ys ≡ true
-      stays x ys m h = let k = member-count x (remove p ys) m in let e = count-remove-other x p ys (λ d. h (sym d)) in counted-member x ys (omega arith)
+      stays : (x : ℕ) → member x (remove p xs) ≡ true → member x xs ≡ true
+      stays x m = remove-member x p xs m
 
       apart : (o : Queue) → j .queue ≢ o → (x : ℕ) → member x (j .queues o) ≡ true → member x xs ≡ false
       apart o d x m = denied (member x xs) (λ k. d (j .rings .one (j .queue) o x k m))
 
 -- ---- p joins
 
-module _ {n : Shape} {ws : List ℕ} {i p : ℕ} (j : Joins n ws i p) (a w : ℕ) (at-records : a ≡ recordsAt n) (reads : w ≡ getD ws i 0 / 8 % 1024) where
-  joins-tail : w ≡ last (j .queues (j .queue))
-  joins-tail = reads ∙ load-at n ws (j .parts) (j .rings .image) (tail (j .queue)) i (j .given) (j .here) 8 1024 refl refl ∙ j .rings .tails (j .queue) (j .given)
+module _ {n : Shape} {ws : List ℕ} {i p : ℕ} (j : Joins n ws i p) where
+  abbrev xs : List ℕ
+  xs = j .queues (j .queue)
 
-  joins-lent : midOf a (length ws - a) ws ≡ records n ws
-  joins-lent = part-lent a ws ∙ ap (λ k. drop k ws) at-records
-
-  pub joins-stands : Stands (midOf a (length ws - a) ws) p
-  joins-stands = rw joins-lent (records-stand n ws (j .parts) (j .rings .image) p (j .process))
-
-  pub joins-ring : Ring (midOf a (length ws - a) ws) w (j .queues (j .queue))
-  joins-ring = rw (joins-lent, joins-tail) (j .rings .rings (j .queue) (j .given))
+  pub joins-stands : Stands (records n ws) p
+  joins-stands = records-stand n ws (j .parts) (j .rings .image) p (j .process)
 
   -- the priorities of the records are those of the parts
-  ranked : (x : ℕ) → inside (n .processes) x ≡ true → link.priority (midOf a (length ws - a) ws) x ≡ ranks (j .parts) x
-  ranked x h = rw joins-lent (priority-said n ws (j .parts) (j .rings .image) x h)
+  pub joins-ranks : (x : ℕ) → inside (n .processes) x ≡ true → link.priority (records n ws) x ≡ ranks (j .parts) x
+  joins-ranks x h = priority-said n ws (j .parts) (j .rings .image) x h
 
-  pub joins-falls : Falling (link.priority (midOf a (length ws - a) ws)) (j .queues (j .queue))
-  joins-falls = falling-agree (ranks (j .parts)) (link.priority (midOf a (length ws - a) ws)) (j .queues (j .queue)) (λ x m. ranked x (j .rings .own (j .queue) x m)) (j .falls)
+  pub stood-ranks : (x : ℕ) → member x xs ≡ true → link.priority (records n ws) x ≡ ranks (j .parts) x
+  stood-ranks x m = joins-ranks x (j .rings .own (j .queue) x m)
 
-  pub joined-relinks : (r : List ℕ) (u v : ℕ) → Joined (midOf a (length ws - a) ws) r w p u (j .queues (j .queue)) → v ≡ relink (getD ws i 0) u
-      → Relinked n ws (set (putMid a (length ws - a) ws r) i v) (j .parts) (j .queues) (j .queue) (insert (ranks (j .parts)) p (j .queues (j .queue)))
-  joined-relinks r u v l e =
-      rw (part-back a ws r, at-records)
-      (relink-ring n ws (j .parts) (j .queues) (j .queue) (j .rings) (j .given) p (insert (ranks (j .parts)) p xs) r (p ∷ xs) u i v
-      (j .process)
-      (λ o m. absurd (true≢false (sym m ∙ j .out o)))
-      (λ x m h. stood x m h)
-      (λ x m. touched x m (eqb-case p x))
-      (subst (λ (z : List ℕ). Kept z r (p ∷ xs)) joins-lent (joined-kept xs joins-stands joins-ring l))
-      ring
-      (λ o h d. joined-ring xs joins-stands joins-ring l (last (j .queues o)) (j .queues o) (j .out o) (apart o d) (subst (λ (z : List ℕ). Ring z (last (j .queues o)) (j .queues o)) (sym joins-lent) (j .rings .rings o h)))
-      (ring-tail-small (insert (ranks (j .parts)) p xs) ring) (j .here) e)
-    where
-      xs : List ℕ
-      xs = j .queues (j .queue)
+  pub joins-falls : Falling (link.priority (records n ws)) xs
+  joins-falls = falling-agree (ranks (j .parts)) (link.priority (records n ws)) xs stood-ranks (j .falls)
 
-      ring : Ring r u (insert (ranks (j .parts)) p xs)
-      ring =
-          subst (λ (ys : List ℕ). Ring r u ys)
-          (insert-agree (ranks (j .parts)) (link.priority (midOf a (length ws - a) ws)) p xs (ranked p (j .process)) (λ x m. ranked x (j .rings .own (j .queue) x m)))
-          (l .ring)
+  module _ (w : ℕ) (is-tail : w ≡ last xs) where
+    pub joins-ring : Ring (records n ws) w xs
+    joins-ring = rw is-tail (j .rings .rings (j .queue) (j .given))
 
-      stood : (x : ℕ) → member x (insert (ranks (j .parts)) p xs) ≡ true → x ≢ p → member x xs ≡ true
-      stood x m h =
-          let k = member-count x (insert (ranks (j .parts)) p xs) m in
-          let c = count-insert (ranks (j .parts)) x p xs in
-          let z : bit (eqb p x) ≡ 0 = rw (eqb-no p x (λ d. h (sym d))) in
-          counted-member x xs (omega arith)
+    pub joined-relinks : (r : List ℕ) (u v : ℕ) → Joined (records n ws) r w p u xs → v ≡ relink (getD ws i 0) u
+        → Relinked n ws (set (take (recordsAt n) ws ++ r) i v) (j .parts) (j .queues) (j .queue) (insert (ranks (j .parts)) p xs)
+    joined-relinks r u v l e =
+        relink-ring n ws (j .parts) (j .queues) (j .queue) (j .rings) (j .given) (insert (ranks (j .parts)) p xs) r (p ∷ xs) u i v
+        (λ x m. own x m (eqb-case p x))
+        (λ x o m k. alone x o m k (eqb-case p x))
+        (λ x m. touched x m (eqb-case p x))
+        (joined-kept xs joins-stands joins-ring l)
+        ring
+        (λ o h d. joined-ring xs joins-stands joins-ring l (last (j .queues o)) (j .queues o) (j .out o) (apart o d) (j .rings .rings o h))
+        (ring-tail-small (insert (ranks (j .parts)) p xs) ring) (j .here) e
+      where
+        ring : Ring r u (insert (ranks (j .parts)) p xs)
+        ring =
+            subst (λ (ys : List ℕ). Ring r u ys)
+            (insert-agree (ranks (j .parts)) (link.priority (records n ws)) p xs (joins-ranks p (j .process)) stood-ranks)
+            (l .ring)
 
-      touched : (x : ℕ) → member x (p ∷ xs) ≡ true → EqCase p x → inside (n .processes) x ≡ true
-      touched x m (holds d z) = rw (← d) (j .process)
-      touched x m (fails d z) = j .rings .own (j .queue) x (rw z at m)
+        stood : (x : ℕ) → member x (insert (ranks (j .parts)) p xs) ≡ true → eqb p x ≡ false → member x xs ≡ true
+        stood x m z = insert-member (ranks (j .parts)) x p xs z m
 
-      apart : (o : Queue) → j .queue ≢ o → (x : ℕ) → member x (j .queues o) ≡ true → member x xs ≡ false
-      apart o d x m = denied (member x xs) (λ k. d (j .rings .one (j .queue) o x k m))
+        own : (x : ℕ) → member x (insert (ranks (j .parts)) p xs) ≡ true → EqCase p x → inside (n .processes) x ≡ true
+        own x m (holds d z) = rw (← d) (j .process)
+        own x m (fails d z) = j .rings .own (j .queue) x (stood x m z)
+
+        alone : (x : ℕ) (o : Queue) → member x (insert (ranks (j .parts)) p xs) ≡ true → member x (j .queues o) ≡ true → EqCase p x → j .queue ≡ o
+        alone x o m k (holds d z) = absurd (true≢false (sym k ∙ rw (← d) (j .out o)))
+        alone x o m k (fails d z) = j .rings .one (j .queue) o x (stood x m z) k
+
+        touched : (x : ℕ) → member x (p ∷ xs) ≡ true → EqCase p x → inside (n .processes) x ≡ true
+        touched x m (holds d z) = rw (← d) (j .process)
+        touched x m (fails d z) = j .rings .own (j .queue) x (rw z at m)
+
+        apart : (o : Queue) → j .queue ≢ o → (x : ℕ) → member x (j .queues o) ≡ true → member x xs ≡ false
+        apart o d x m = denied (member x xs) (λ k. d (j .rings .one (j .queue) o x k m))
+
+-- what is promised of the records when they are lent is promised of them where they stand
+pub lent-join : {n : Shape} {ws : List ℕ} {i p : ℕ} (j : Joins n ws i p) {a w : ℕ} → a ≡ recordsAt n → w ≡ getD ws i 0 / 8 % 1024
+    → Stands (midOf a (length ws - a) ws) p × Ring (midOf a (length ws - a) ws) w (j .queues (j .queue)) × Falling (link.priority (midOf a (length ws - a) ws)) (j .queues (j .queue))
+lent-join {n} {ws} j {a} {w} e reads = rw (lent n ws e) (joins-stands j, joins-ring j w (tail-read (j .queue) (j .rings) (j .given) (j .here) reads), joins-falls j)
+
+pub back-join : {n : Shape} {ws : List ℕ} {i p : ℕ} (j : Joins n ws i p) {a w : ℕ} (at-records : a ≡ recordsAt n) (reads : w ≡ getD ws i 0 / 8 % 1024) (r : List ℕ) (u v : ℕ)
+    → Joined (midOf a (length ws - a) ws) r w p u (j .queues (j .queue)) → v ≡ relink (getD ws i 0) u
+    → Relinked n ws (set (putMid a (length ws - a) ws r) i v) (j .parts) (j .queues) (j .queue) (insert (ranks (j .parts)) p (j .queues (j .queue)))
+back-join {n} {ws} {p = p} j {a} {w} at-records reads r u v l e =
+    rw (part-back a ws r, at-records)
+    (joined-relinks j w (tail-read (j .queue) (j .rings) (j .given) (j .here) reads) r u v (subst (λ (z : List ℕ). Joined z r w p u (j .queues (j .queue))) (lent n ws at-records) l) e)

@@ -6,25 +6,16 @@ use mathlib.Core.List.{List, _∷_}
 use Prim.Native.Nat.{ℕ, _/_, _%_, _≤_, _<_}
 use native.Mathlib.Decide.{ℕ-discrete}
 use native.Mathlib.Omega.{arith}
-use lib.ListN.{length, getD}
 use Rattle.model.specs.Queue.{member}
 use Rattle.model.proofs.Lists.{member-here, member-there}
 use Rattle.ring.specs.Link.{Stands, slot, link, next, priority, point}
-use Rattle.ring.specs.Ring.{Ring, lastOf, aheadOf, aheadFor, leader, Left, Joined}
+use Rattle.ring.specs.Ring.{Ring, lastOf, aheadOf, aheadFor, leader, Kept, Left, Joined}
 use Rattle.ring.proofs.Links.{relink-priority, relink-low, next-small, point-length, point-word, point-kept, slots-apart}
 use Rattle.ring.proofs.Lists.{flip, differ, all-members, members-all, member-other}
 use Rattle.ring.proofs.Rings.{ring-stand, ring-member, follows-all, ring-same}
 use Rattle.ring.proofs.Moves.{leader-some}
 
 -- ---- a change of the next fields of some of zs
-
--- r′ has the words of r but for the next fields of zs
-pub record Kept (r r′ zs : List ℕ) : Type 0 where
-  pub long : length r′ ≡ length r
-  pub high : (i : ℕ) → getD r′ i 0 / 8192 ≡ getD r i 0 / 8192
-  pub low : (i : ℕ) → getD r′ i 0 % 8 ≡ getD r i 0 % 8
-  pub words : (i : ℕ) → i % 3 ≢ 0 → getD r′ i 0 ≡ getD r i 0
-  pub links : (q : ℕ) → 1 ≤ q → member q zs ≡ false → link r′ q ≡ link r q
 
 module _ {r r′ zs : List ℕ} (K : Kept r r′ zs) where
   pub kept-priority : (q : ℕ) → priority r′ q ≡ priority r q

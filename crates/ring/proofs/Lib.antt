@@ -6,5 +6,8 @@ pub mod Walk
 pub mod Tour
 pub mod Moves
 pub mod Frame
+pub mod Lasts
+pub mod Noted
+pub mod Sweeping
 pub mod Gathering
 pub mod Examples

@@ -1,3 +1,4 @@
 pub mod Link
 pub mod Ring
+pub mod Many
 pub mod Bands

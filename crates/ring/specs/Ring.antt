@@ -1,11 +1,13 @@
 -- What a ring of processes is, and what joining and leaving it promise. Assumes nothing.
 use mathlib.Core.Path.{_≡_}
-use mathlib.Core.Bool.{Bool, true, not, cond}
+use mathlib.Core.Logic.{_≢_}
+use mathlib.Core.Bool.{Bool, true, false, not, cond}
 use mathlib.Core.List.{List, [], _∷_}
-use Prim.Native.Nat.{ℕ, zero, suc, _≤_}
+use Prim.Native.Nat.{ℕ, zero, suc, _/_, _%_, _≤_}
 use lib.Dec.{eqb, leb}
+use lib.ListN.{length, getD}
 use Rattle.model.specs.Queue.{member, count, remove, insert}
-use Rattle.ring.specs.Link.{Stands, next, priority, point, wedge}
+use Rattle.ring.specs.Link.{Stands, link, next, priority, point, wedge}
 
 -- ---- rings
 
@@ -42,6 +44,14 @@ abbrev pub aheadFor : (ℕ → ℕ) → ℕ → List ℕ → List ℕ
 aheadFor pr p xs = takeWhile (λ x. leb (pr p) (pr x)) xs
 
 -- ---- moves
+
+-- r′ has the words of r but for the next fields of zs
+pub record Kept (r r′ zs : List ℕ) : Type 0 where
+  pub long : length r′ ≡ length r
+  pub high : (i : ℕ) → getD r′ i 0 / 8192 ≡ getD r i 0 / 8192
+  pub low : (i : ℕ) → getD r′ i 0 % 8 ≡ getD r i 0 % 8
+  pub words : (i : ℕ) → i % 3 ≢ 0 → getD r′ i 0 ≡ getD r i 0
+  pub links : (q : ℕ) → 1 ≤ q → member q zs ≡ false → link r′ q ≡ link r q
 
 -- p has left xs: whoever was before it is before whoever was behind it, and t is the new tail
 pub record Left (r r′ : List ℕ) (tail p t : ℕ) (xs : List ℕ) : Type 0 where

@@ -5,11 +5,11 @@ use mathlib.Core.Path.{_≡_, refl, sym, _∙_, ap}
 use mathlib.Core.Bool.{Bool, true, false, not, true≢false, false≢true}
 use mathlib.Core.List.{List, [], _∷_, _++_}
 use mathlib.Core.Option.{Option, none, some, Option·none-ne-some, Option·some-injective}
-use lib.Dec.{eqb}
 use lib.ListN.{length, getD}
-use borrow.Author.Tests.{eq-eqb, eqb-true}
 use Rattle.model.specs.Queue.{Queue, inside, bit, exists, member, count, All}
+use Rattle.model.specs.Queue.Queue.{ready}
 use Rattle.model.proofs.Lists.{absent-count}
+use Rattle.ring.specs.Link as links
 use Rattle.area.specs.Reading.{shapeOf}
 use Rattle.area.specs.Rings.{records}
 use Rattle.area.specs.Sound.{Sound}
@@ -20,7 +20,7 @@ use Rattle.members.proofs.Chains.{Words, Member, all-member}
 use Rattle.sound.specs.Passed.{then}
 use Rattle.sound.proofs.Queues.{kindOf, holderWord, visits, queuesOf, visits-append}
 use Rattle.sound.proofs.Lists.{every, every-in, in-every, in-all, all-in, full-length, length-full}
-use Rattle.sound.proofs.Visits.{reading, total, Visited, AllVisited, visits-read, visits-full}
+use Rattle.sound.proofs.Visits.{reading, total, Visited, AllVisited, led, visits-read, visits-full}
 use Rattle.sound.proofs.Whole.{whole-sound}
 use Rattle.sound.proofs.Passes.{sound-whole}
 
@@ -63,6 +63,11 @@ total-inside ws x (q ∷ qs) v i = let a = go (member x (reading ws q)) refl in 
         let k = all-member (Member (records (shapeOf ws) ws) (getD ws 0 0) (kindOf q) (holderWord ws q / 8)) (reading ws q) (v .0 .ring .members) x m in
         absurd (true≢false (sym (k .within) ∙ i))
 
+-- past the passes: the tail of ready and who comes after it are processes, and what is left to ask is whether running is in order
+pub record Past (ws : List ℕ) : Type 0 where
+  pub led : (getD ws 5 0 / 8 ≡ 0 → ⊥) → (inside (getD ws 0 0) (getD ws 5 0 / 8) ≡ true) × (inside (getD ws 0 0) (links.next (records (shapeOf ws) ws) (getD ws 5 0 / 8)) ≡ true)
+  pub decided : (b : Bool) → Decides b (Runs ws (records (shapeOf ws) ws)) → (b ≡ true → Sound ws) × (Sound ws → b ≡ true)
+
 module _ (ws : List ℕ) (small : Words ws) where
   abbrev P : ℕ
   P = getD ws 0 0
@@ -70,9 +75,12 @@ module _ (ws : List ℕ) (small : Words ws) where
   abbrev all : List Queue
   all = every (shapeOf ws)
 
-  accepted : Counted ws → Runs ws (records (shapeOf ws) ws) P → (js : List ℕ) → visits ws all [] ≡ some js → length js ≡ P → Sound ws
+  passes : Counted ws → (js : List ℕ) → visits ws all [] ≡ some js → AllVisited ws all [] js
+  passes c js w = visits-read ws all [] js (all-in (λ q. exists (shapeOf ws) q ≡ true) all (in-every (shapeOf ws))) (c .processes) (λ x. omega arith) w
+
+  accepted : Counted ws → Runs ws (records (shapeOf ws) ws) → (js : List ℕ) → visits ws all [] ≡ some js → length js ≡ P → Sound ws
   accepted c u js w l =
-      let a = visits-read ws all [] js (all-in (λ q. exists (shapeOf ws) q ≡ true) all (in-every (shapeOf ws))) (c .processes) (λ x. omega arith) w in
+      let a = passes c js w in
       let f : (x : ℕ) → count x js ≡ bit (inside P x) = length-full P js (λ x. bound a x (inside P x) refl) l in
       whole-sound ws small
       record {
@@ -104,7 +112,7 @@ module _ (ws : List ℕ) (small : Words ws) where
   pub uncounted : (Counted ws → ⊥) → Sound ws → ⊥
   uncounted h S = h (sound-whole ws small S .counts)
 
-  pub unready : (Runs ws (records (shapeOf ws) ws) P → ⊥) → Sound ws → ⊥
+  unready : (Runs ws (records (shapeOf ws) ws) → ⊥) → Sound ws → ⊥
   unready h S = h (sound-whole ws small S .runs)
 
   -- ---- the passes
@@ -112,44 +120,55 @@ module _ (ws : List ℕ) (small : Words ws) where
   abbrev plain : List Queue
   plain = queuesOf 0 (1 + shapeOf ws .parks)
 
-  abbrev locks : List Queue
-  locks = queuesOf 1 (shapeOf ws .locks)
-
   abbrev conditions : List Queue
   conditions = queuesOf 2 (shapeOf ws .conditions)
+
+  abbrev locks : List Queue
+  locks = queuesOf 1 (shapeOf ws .locks)
 
   module _ (C : Counted ws) (c₁ : ℕ) (ms₁ : List ℕ) (t₁ : (js : List ℕ) → Met P clear js 0 → Told P c₁ ms₁ (visits ws plain js)) where
     start : Met P clear [] 0
     start = record { table = table-clear; counts = refl; few = omega arith }
 
     pub broken-1 : c₁ ≡ 1024 → Sound ws → ⊥
-    broken-1 e = refused (visits-append ws plain (locks ++ conditions) [] ∙ rw (told-broken P c₁ ms₁ (visits ws plain []) (C .processes) (t₁ [] start) e))
+    broken-1 e = refused (visits-append ws plain (conditions ++ locks) [] ∙ rw (told-broken P c₁ ms₁ (visits ws plain []) (C .processes) (t₁ [] start) e))
 
-    module _ (n₁ : c₁ ≡ 1024 → ⊥) (c₂ : ℕ) (ms₂ : List ℕ) (t₂ : (js : List ℕ) → Met P ms₁ js c₁ → Told P c₂ ms₂ (visits ws locks js)) where
+    module _ (n₁ : c₁ ≡ 1024 → ⊥) (c₂ : ℕ) (ms₂ : List ℕ) (t₂ : (js : List ℕ) → Met P ms₁ js c₁ → Told P c₂ ms₂ (visits ws conditions js)) where
       l₁ : Left P c₁ ms₁ (visits ws plain [])
       l₁ = told-met P c₁ ms₁ (visits ws plain []) (t₁ [] start) n₁
 
-      after₁ : visits ws all [] ≡ then (visits ws locks (l₁ .js)) (visits ws conditions)
-      after₁ = visits-append ws plain (locks ++ conditions) [] ∙ rw (l₁ .is) (visits-append ws locks conditions (l₁ .js))
+      after₁ : visits ws all [] ≡ then (visits ws conditions (l₁ .js)) (visits ws locks)
+      after₁ = visits-append ws plain (conditions ++ locks) [] ∙ rw (l₁ .is) (visits-append ws conditions locks (l₁ .js))
 
       pub broken-2 : c₂ ≡ 1024 → Sound ws → ⊥
-      broken-2 e = refused (after₁ ∙ rw (told-broken P c₂ ms₂ (visits ws locks (l₁ .js)) (C .processes) (t₂ (l₁ .js) (l₁ .met)) e))
+      broken-2 e = refused (after₁ ∙ rw (told-broken P c₂ ms₂ (visits ws conditions (l₁ .js)) (C .processes) (t₂ (l₁ .js) (l₁ .met)) e))
 
-      module _ (n₂ : c₂ ≡ 1024 → ⊥) (c₃ : ℕ) (ms₃ : List ℕ) (t₃ : (js : List ℕ) → Met P ms₂ js c₂ → Told P c₃ ms₃ (visits ws conditions js)) where
-        l₂ : Left P c₂ ms₂ (visits ws locks (l₁ .js))
-        l₂ = told-met P c₂ ms₂ (visits ws locks (l₁ .js)) (t₂ (l₁ .js) (l₁ .met)) n₂
+      module _ (n₂ : c₂ ≡ 1024 → ⊥) (c₃ : ℕ) (ms₃ : List ℕ) (t₃ : (js : List ℕ) → Met P ms₂ js c₂ → Told P c₃ ms₃ (visits ws locks js)) where
+        l₂ : Left P c₂ ms₂ (visits ws conditions (l₁ .js))
+        l₂ = told-met P c₂ ms₂ (visits ws conditions (l₁ .js)) (t₂ (l₁ .js) (l₁ .met)) n₂
 
-        after₂ : visits ws all [] ≡ visits ws conditions (l₂ .js)
+        after₂ : visits ws all [] ≡ visits ws locks (l₂ .js)
         after₂ = after₁ ∙ rw (l₂ .is)
 
-        pub finished : Runs ws (records (shapeOf ws) ws) P → (eqb c₃ P ≡ true → Sound ws) × (Sound ws → eqb c₃ P ≡ true)
-        finished u = go (visits ws conditions (l₂ .js)) after₂ (t₃ (l₂ .js) (l₂ .met))
+        pub uneven : (c₃ ≡ P → ⊥) → Sound ws → ⊥
+        uneven z S = go (visits ws locks (l₂ .js)) after₂ (t₃ (l₂ .js) (l₂ .met))
           where
-            go : (out : Option (List ℕ)) → visits ws all [] ≡ out → Told P c₃ ms₃ out → (eqb c₃ P ≡ true → Sound ws) × (Sound ws → eqb c₃ P ≡ true)
-            go none e t = ((λ f. let d = eqb-true c₃ P f in let b = C .processes in absurd (omega arith)), λ S. absurd (refused e S))
-            go (some js) e t = (
-              (λ f. accepted C u js e (sym (t .counts) ∙ eqb-true c₃ P f)),
-              λ S.
-                  let k = complete S in
-                  eq-eqb c₃ P (t .counts ∙ (ap length (Option·some-injective js (k .left) (sym e ∙ k .is)) ∙ k .every-one)),
-            )
+            go : (out : Option (List ℕ)) → visits ws all [] ≡ out → Told P c₃ ms₃ out → ⊥
+            go none e t = refused e S
+            go (some js) e t = let k = complete S in z (t .counts ∙ (ap length (Option·some-injective js (k .left) (sym e ∙ k .is)) ∙ k .every-one))
+
+        pub finished : c₃ ≡ P → Past ws
+        finished f = record {
+          led = led ws (in-all (Visited ws) all (passes C (l₃ .js) w .each) ready (every-in (shapeOf ws) ready refl));
+          decided = go;
+        }
+          where
+            l₃ : Left P c₃ ms₃ (visits ws locks (l₂ .js))
+            l₃ = told-met P c₃ ms₃ (visits ws locks (l₂ .js)) (t₃ (l₂ .js) (l₂ .met)) (λ e. let b = C .processes in omega arith)
+
+            w : visits ws all [] ≡ some (l₃ .js)
+            w = after₂ ∙ l₃ .is
+
+            go : (b : Bool) → Decides b (Runs ws (records (shapeOf ws) ws)) → (b ≡ true → Sound ws) × (Sound ws → b ≡ true)
+            go true u = ((λ e. accepted C u (l₃ .js) w (sym (l₃ .met .counts) ∙ f)), λ S. refl)
+            go false n = refuses (unready n)

@@ -115,7 +115,7 @@ hits-other q k (suc m) l h =
 -- ---- all of them
 
 abbrev pub every : Shape → List Queue
-every n = queuesOf 0 (1 + n .parks) ++ (queuesOf 1 (n .locks) ++ queuesOf 2 (n .conditions))
+every n = queuesOf 0 (1 + n .parks) ++ (queuesOf 2 (n .conditions) ++ queuesOf 1 (n .locks))
 
 -- a queue that the counts give, by its kind and number
 by-number : (n : Shape) (q : Queue) → exists n q ≡ true → (q ≡ queueAt (kindOf q) (numberIn q)) × (numberIn q < numberOf n (kindOf q))
@@ -138,11 +138,11 @@ module _ (n : Shape) where
   abbrev plain : List Queue
   plain = queuesOf 0 (1 + n .parks)
 
-  abbrev locks : List Queue
-  locks = queuesOf 1 (n .locks)
-
   abbrev conditions : List Queue
   conditions = queuesOf 2 (n .conditions)
+
+  abbrev locks : List Queue
+  locks = queuesOf 1 (n .locks)
 
   pub every-in : (q : Queue) → exists n q ≡ true → In q (every n)
   every-in q h = let b = by-number n q h in rw (b .0) (go (kindOf q) (numberIn q) (kind-small q) (b .1))
@@ -154,26 +154,26 @@ module _ (n : Shape) where
       kind-small (condition c) = omega arith
 
       go : (k i : ℕ) → k ≤ 2 → i < numberOf n k → In (queueAt k i) (every n)
-      go zero i l h = in-left (queueAt 0 i) plain (locks ++ conditions) (in-kind 0 i (1 + n .parks) h)
-      go (suc zero) i l h = in-right (queueAt 1 i) plain (locks ++ conditions) (in-left (queueAt 1 i) locks conditions (in-kind 1 i (n .locks) h))
-      go (suc (suc zero)) i l h = in-right (queueAt 2 i) plain (locks ++ conditions) (in-right (queueAt 2 i) locks conditions (in-kind 2 i (n .conditions) h))
+      go zero i l h = in-left (queueAt 0 i) plain (conditions ++ locks) (in-kind 0 i (1 + n .parks) h)
+      go (suc zero) i l h = in-right (queueAt 1 i) plain (conditions ++ locks) (in-right (queueAt 1 i) conditions locks (in-kind 1 i (n .locks) h))
+      go (suc (suc zero)) i l h = in-right (queueAt 2 i) plain (conditions ++ locks) (in-left (queueAt 2 i) conditions locks (in-kind 2 i (n .conditions) h))
       go (suc (suc (suc k))) i l h = absurd (omega arith)
 
   pub in-every : (q : Queue) → In q (every n) → exists n q ≡ true
-  in-every q i = go (in-either q plain (locks ++ conditions) i)
+  in-every q i = go (in-either q plain (conditions ++ locks) i)
     where
-      rest : In q locks ⊎ In q conditions → exists n q ≡ true
-      rest (inl a) = kind-in (λ q. exists n q ≡ true) 1 (n .locks) (λ i l. given n 1 i (omega arith) l) q a
-      rest (inr a) = kind-in (λ q. exists n q ≡ true) 2 (n .conditions) (λ i l. given n 2 i (omega arith) l) q a
+      rest : In q conditions ⊎ In q locks → exists n q ≡ true
+      rest (inl a) = kind-in (λ q. exists n q ≡ true) 2 (n .conditions) (λ i l. given n 2 i (omega arith) l) q a
+      rest (inr a) = kind-in (λ q. exists n q ≡ true) 1 (n .locks) (λ i l. given n 1 i (omega arith) l) q a
 
-      go : In q plain ⊎ In q (locks ++ conditions) → exists n q ≡ true
+      go : In q plain ⊎ In q (conditions ++ locks) → exists n q ≡ true
       go (inl a) = kind-in (λ q. exists n q ≡ true) 0 (1 + n .parks) (λ i l. given n 0 i (omega arith) l) q a
-      go (inr a) = rest (in-either q locks conditions a)
+      go (inr a) = rest (in-either q conditions locks a)
 
   pub every-once : (q : Queue) → exists n q ≡ true → hits q (every n) ≡ 1
   every-once q h =
-      let s = hits-append q plain (locks ++ conditions) in
-      let t = hits-append q locks conditions in
+      let s = hits-append q plain (conditions ++ locks) in
+      let t = hits-append q conditions locks in
       let a = of-kind 0 (omega arith) in
       let b = of-kind 1 (omega arith) in
       let c = of-kind 2 (omega arith) in

@@ -199,13 +199,13 @@ module _ (ws : List ℕ) (small : Words ws) (S : Sound ws) where
 
   -- ---- running
 
-  runs : Runs ws rs P
+  runs : Runs ws rs
   runs = go (reading ws ready) (linked ready refl) (ends ready refl) (λ x m. is-inside x ready m) (S .valid .runs)
     where
-      go : (ys : List ℕ) → Linked (links.next rs) (getD ws 5 0 / 8) ys → lastOf 0 ys ≡ getD ws 5 0 / 8 → ((x : ℕ) → member x ys ≡ true → inside P x ≡ true) → getD ws 4 0 / 8 % 1024 ≡ first ys → Runs ws rs P
+      go : (ys : List ℕ) → Linked (links.next rs) (getD ws 5 0 / 8) ys → lastOf 0 ys ≡ getD ws 5 0 / 8 → ((x : ℕ) → member x ys ≡ true → inside P x ≡ true) → getD ws 4 0 / 8 % 1024 ≡ first ys → Runs ws rs
       go [] l e m f =
           let t = S .tidy Running refl in
-          record { nobody = λ z. omega arith; tail = tail-small ready refl; somebody = λ z. absurd (z (sym e)) }
+          record { nobody = λ z. omega arith; somebody = λ z. absurd (z (sym e)) }
       go (y ∷ ys) l e m f =
           let t = S .tidy Running refl in
           let i = m y (member-here y ys) in
@@ -213,11 +213,7 @@ module _ (ws : List ℕ) (small : Words ws) (S : Sound ws) where
           let last-in = inside-bounds P (lastOf y ys) (m (lastOf y ys) (last-member y ys)) in
           let o = l .0 in
           let still : links.link rs y / 4 % 2 ≡ 0 = rw (link-word ws y) (rw (f, i) at (S .valid .steady)) in
-          record {
-            nobody = λ z. absurd (omega arith);
-            tail = tail-small ready refl;
-            somebody = λ z. record { some = omega arith; within = omega arith; first = omega arith; clear = rw o still };
-          }
+          record { nobody = λ z. absurd (omega arith); somebody = λ z. record { first = omega arith; clear = rw o still } }
 
   -- ---- all together
 

@@ -12,14 +12,17 @@ use lib.ListN.{length, getD, drop, length-drop}
 use lib.Seq.{getD-drop}
 use borrow.Author.Tests.{not-true, not-false}
 use Rattle.model.specs.declared.Shape.{Shape}
-use Rattle.model.specs.Queue.{Queue}
+use Rattle.model.specs.Queue.{Queue, inside}
 use Rattle.model.specs.Queue.Queue.{ready, park, lock, condition}
+use Rattle.model.proofs.Tests.{inside-bounds}
+use Rattle.ring.specs.Link as links
+use Rattle.ring.specs.Link.{Stands}
 use Rattle.area.specs.Layout.{size, at, locksAt, conditionsAt, recordsAt}
 use Rattle.area.specs.Layout.Slot.{Tail, Holder}
 use Rattle.area.specs.Reading.{shapeOf}
 use Rattle.area.specs.Rings.{records}
 use Rattle.area.proofs.Records.{part-lent}
-use Rattle.heads.specs.First.{Decides, Counted, Runs}
+use Rattle.heads.specs.First.{Decides, Counted, Led, Runs}
 use Rattle.heads.specs.Heads.{heading, headAt, holderIn}
 use Rattle.members.specs.Walk.{ringed, Met, Told}
 use Rattle.members.proofs.Chains.{Words}
@@ -220,7 +223,10 @@ from ws a = midOf a (length ws - a) ws
 
 -- by the counts n that the words say, and the address r of the records
 module _ (ws : List ℕ) {n : Shape} (e : n ≡ shapeOf ws) {r : ℕ} (there : r ≡ recordsAt n) where
-  pub lent-runs : (b : Bool) → Decides b (Runs ws (from ws r) (n .processes)) → Decides b (Runs ws (records (shapeOf ws) ws) (getD ws 0 0))
+  pub lent-count : n .processes ≡ getD ws 0 0
+  lent-count = ap (λ (m : Shape). m .processes) e
+
+  pub lent-runs : (b : Bool) → Decides b (Runs ws (from ws r)) → Decides b (Runs ws (records (shapeOf ws) ws))
   lent-runs b d = rw (there, e, part-lent (recordsAt (shapeOf ws)) ws) at d
 
   pub lent-visits : (k : ℕ) → k ≤ 2 → {a : ℕ} → a ≡ begins n k → (c₀ c : ℕ) (ms₀ ms : List ℕ)
@@ -237,8 +243,15 @@ module _ (ws : List ℕ) {n : Shape} (e : n ≡ shapeOf ws) {r : ℕ} (there : r
     lent-records : 3 * n .processes ≤ length (from ws r)
     lent-records = rw (there, part-lent (recordsAt n) ws, length-drop (recordsAt n) ws) (let l = counted-long e c in omega arith)
 
-    pub lent-first : (6 ≤ length ws) × (n .processes < 1024) × (3 * n .processes ≤ length (from ws r))
-    lent-first = (c .header, few, lent-records)
+    stands : (p : ℕ) → inside (getD ws 0 0) p ≡ true → Stands (from ws r) p
+    stands p i =
+        let b = inside-bounds (getD ws 0 0) p i in
+        let q = lent-count in let f = few in let l = lent-records in
+        record { low = b .0; high = omega arith; within = omega arith }
+
+    pub lent-led : ((getD ws 5 0 / 8 ≡ 0 → ⊥) → (inside (getD ws 0 0) (getD ws 5 0 / 8) ≡ true) × (inside (getD ws 0 0) (links.next (records (shapeOf ws) ws) (getD ws 5 0 / 8)) ≡ true))
+        → (6 ≤ length ws) × Led ws (from ws r)
+    lent-led h = (c .header, λ z. (stands _ (h z .0), stands _ (rw (there, e, part-lent (recordsAt (shapeOf ws)) ws) (h z .1))))
 
     number-small : (k : ℕ) → Words ws → numberOf n k < 1024
     number-small k small = rw e (go k)

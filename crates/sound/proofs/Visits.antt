@@ -15,12 +15,13 @@ use Rattle.model.proofs.Tests.{inside-bounds}
 use Rattle.model.proofs.Lists.{member-count, absent-count, at-most}
 use Rattle.ring.specs.Link as links
 use Rattle.ring.specs.Link.{slot}
+use Rattle.ring.specs.Ring.{lastOf, Linked}
 use Rattle.area.specs.Layout.{at, recordsAt}
 use Rattle.area.specs.Layout.Part.{kept, tail, next}
 use Rattle.area.specs.Layout.Slot.{Link, Flags, Timer}
 use Rattle.area.specs.Reading.{shapeOf, partsOf, queueOf}
 use Rattle.area.specs.Rings.{records}
-use Rattle.area.proofs.Rings.{Once, ring-ext, In}
+use Rattle.area.proofs.Rings.{Once, ring-ext, last-member, In}
 use Rattle.area.proofs.States.{read-ring}
 use Rattle.heads.specs.Heads.{heading}
 use Rattle.heads.proofs.Tests.{Headed, heading-is, is-heading}
@@ -116,6 +117,19 @@ unfolding visit
 visit-full ws q js small v c =
     rw (is-heading (getD ws 0 0) (kindOf q) (tailWord ws q) (holderWord ws q) (v .head))
     (ring-full (records (shapeOf ws) ws) (getD ws 0 0) (kindOf q) (holderWord ws q / 8) (tailWord ws q / 8) (records-small ws small) (reading ws q) js (v .ring) c)
+
+-- the tail of ready, if it has one, and who comes after it are processes
+pub led : (ws : List ℕ) → Visited ws ready → (getD ws 5 0 / 8 ≡ 0 → ⊥)
+    → (inside (getD ws 0 0) (getD ws 5 0 / 8) ≡ true) × (inside (getD ws 0 0) (links.next (records (shapeOf ws) ws) (getD ws 5 0 / 8)) ≡ true)
+led ws v z = go (reading ws ready) (v .ring .linked) (v .ring .ends) (v .ring .members)
+  where
+    T : ℕ → Type 0
+    T = Member (records (shapeOf ws) ws) (getD ws 0 0) 0 0
+
+    go : (ys : List ℕ) → Linked (links.next (records (shapeOf ws) ws)) (getD ws 5 0 / 8) ys → lastOf 0 ys ≡ getD ws 5 0 / 8 → All T ys
+        → (inside (getD ws 0 0) (getD ws 5 0 / 8) ≡ true) × (inside (getD ws 0 0) (links.next (records (shapeOf ws) ws) (getD ws 5 0 / 8)) ≡ true)
+    go [] l e m = absurd (z (sym e))
+    go (y ∷ ys) l e m = (rw (← e) (all-member T (y ∷ ys) m (lastOf y ys) (last-member y ys) .within), rw (l .0) (m .0 .within))
 
 -- ---- several queues
 

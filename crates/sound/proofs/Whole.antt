@@ -36,12 +36,12 @@ use Rattle.members.proofs.Tests.{Fits}
 use Rattle.members.proofs.Chains.{Words, Member, all-member, member-all}
 use Rattle.sound.proofs.Queues.{kindOf, tailWord, holderWord}
 use Rattle.sound.proofs.Lists.{every, every-in, in-every}
-use Rattle.sound.proofs.Visits.{reading, total, Visited, link-word, flags-word, timer-word, tail-part, next-part, priority-part, total-one, total-two, placeIn, place-in}
+use Rattle.sound.proofs.Visits.{reading, total, Visited, link-word, flags-word, timer-word, tail-part, next-part, priority-part, led, total-one, total-two, placeIn, place-in}
 
 -- what the check finds
 pub record Whole (ws : List ℕ) : Type 0 where
   pub counts : Counted ws
-  pub runs : Runs ws (records (shapeOf ws) ws) (getD ws 0 0)
+  pub runs : Runs ws (records (shapeOf ws) ws)
   pub each : (q : Queue) → exists (shapeOf ws) q ≡ true → Visited ws q
   pub once : (x : ℕ) → total ws x (every (shapeOf ws)) ≡ bit (inside (getD ws 0 0) x)
 
@@ -208,10 +208,13 @@ module _ (ws : List ℕ) (small : Words ws) (W : Whole ws) where
           rw (next-part ws x i) (inside-bounds P (links.next rs x) (there (links.next rs x) q (ring-next (links.next rs) (reading ws q) l x m) .1 .within) .1)
 
   -- running
+  first-within : (getD ws 5 0 / 8 ≡ 0 → ⊥) → links.next rs (getD ws 5 0 / 8) ≤ P
+  first-within z = inside-bounds P (links.next rs (getD ws 5 0 / 8)) (led ws (W .each ready refl) z .1) .1
+
   run-word : (getD ws 4 0 / 8 ≤ P) × (getD ws 4 0 % 8 ≡ 0)
   run-word = elim (ℕ-discrete (getD ws 5 0 / 8) 0) [
     | yes e ↦ let a = W .runs .nobody e in (omega arith, omega arith)
-    | no e ↦ let a = W .runs .somebody e in let b = a .first in let c = a .within in (omega arith, omega arith)
+    | no e ↦ let b = W .runs .somebody e .first in let c = first-within e in (omega arith, omega arith)
   ]
 
   counts-are : counted n ≡ true
@@ -298,8 +301,8 @@ module _ (ws : List ℕ) (small : Words ws) (W : Whole ws) where
       go [] l e m = let a = W .runs .nobody (sym e) in omega arith
       go (y ∷ ys) l e m =
           let b = inside-bounds P (lastOf y ys) (all-member (Member rs P 0 0) (y ∷ ys) m (lastOf y ys) (last-member y ys) .within) in
-          let a = W .runs .somebody (λ z. omega arith) in
-          let f = a .first in let w = a .within in let o = l .0 in let u = most in
+          let z : getD ws 5 0 / 8 ≡ 0 → ⊥ = λ z. omega arith in
+          let f = W .runs .somebody z .first in let w = first-within z in let o = l .0 in let u = most in
           omega arith
 
   steady-at : partsOf n ws (kept (failed (getD ws 4 0 / 8 % 1024))) ≡ 0
@@ -310,7 +313,7 @@ module _ (ws : List ℕ) (small : Words ws) (W : Whole ws) where
       go true i (yes e) = let a = W .runs .nobody e in let b = inside-bounds P (getD ws 4 0 / 8 % 1024) i in absurd (omega arith)
       go true i (no e) =
           let a = W .runs .somebody e in
-          let f = a .first in let w = a .within in let u = most in
+          let f = a .first in let w = first-within e in let u = most in
           let z : getD ws 4 0 / 8 % 1024 ≡ links.next rs (getD ws 5 0 / 8) = omega arith in
           rw (i, z, ← link-word ws (links.next rs (getD ws 5 0 / 8))) (a .clear)
 

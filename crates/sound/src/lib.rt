@@ -50,7 +50,7 @@ fn rings(
     found
 }
 
-// Whether an area is sound.
+// Whether an area is sound. The locks come last: their rings take the most code, and a compiler copies a long function in at its last call.
 pub fn sound(area: &[u16]) -> bool
     ensures { λ r. ⌜ (r ≡ true → Sound (now (area .entry))) × (Sound (now (area .entry)) → r ≡ true) ⌝ }
 {
@@ -60,9 +60,6 @@ pub fn sound(area: &[u16]) -> bool
     let shape = area::shape_of(area);
     let first_record = area::records_at(shape);
     let records = &area[first_record..];
-    if !heads::runs(area, records, shape.processes) {
-        return false;
-    }
     let mut marks = [0u64; 16];
     let plain = rings(
         &area[layout::READY..],
@@ -76,28 +73,31 @@ pub fn sound(area: &[u16]) -> bool
     if plain == BROKEN {
         return false;
     }
-    let first_lock = area::locks_at(shape);
-    let blocked = rings(
-        &area[first_lock..],
-        records,
-        shape.processes,
-        heads::LOCK,
-        shape.locks as usize,
-        plain,
-        &mut marks,
-    );
-    if blocked == BROKEN {
-        return false;
-    }
     let first_condition = area::conditions_at(shape);
-    let all = rings(
+    let waiting = rings(
         &area[first_condition..],
         records,
         shape.processes,
         heads::CONDITION,
         shape.conditions as usize,
-        blocked,
+        plain,
         &mut marks,
     );
-    all == shape.processes as usize
+    if waiting == BROKEN {
+        return false;
+    }
+    let first_lock = area::locks_at(shape);
+    let all = rings(
+        &area[first_lock..],
+        records,
+        shape.processes,
+        heads::LOCK,
+        shape.locks as usize,
+        waiting,
+        &mut marks,
+    );
+    if all != shape.processes as usize {
+        return false;
+    }
+    heads::runs(area, records)
 }

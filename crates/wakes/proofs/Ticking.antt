@@ -1,135 +1,182 @@
--- Tick: those whose timer rings wake in process order. A process that is still to come has its timer and its place as they were, since only
--- earlier ones have woken, so it rings by the first state and waits in its condition. Assumes nothing.
-use Prim.Native.Nat.{ℕ, zero, suc, _+_, _-_, _%_, _≤_}
+-- Tick: those whose timer rings leave their conditions, and then wake in process order. Who rings waits, so each condition is without them when
+-- it is swept, no other queue has one of them, and they are those of the rule. Assumes nothing.
+use Prim.Native.Nat.{ℕ, zero, suc, _+_, _%_, _≤_}
 use native.Mathlib.Omega.{arith}
 use native.Mathlib.Numerals.{add-one}
 use mathlib.Core.Path.{_≡_, refl, sym, ap, _∙_, subst}
-use mathlib.Core.Bool.{Bool, true, false, not, _&&_, _||_, cond, and-false, false≢true}
+use mathlib.Core.Bool.{Bool, true, false, not, _&&_, true≢false}
 use mathlib.Core.Logic.{_≢_}
 use mathlib.Core.List.{List, [], _∷_, _++_}
 use lib.Dec.{eqb}
-use lib.ListN.{length, length-append}
+use lib.ListN.{length}
 use Rattle.model.specs.declared.Shape.{Shape}
 use Rattle.model.specs.declared.Answer.{Answer}
 use Rattle.model.specs.declared.Call.the-variants.{Tick}
-use Rattle.model.specs.Queue.{Queue, inside, upTo, anyOf, member, filter, toReady}
-use Rattle.model.specs.Queue.Queue.{ready, condition}
-use Rattle.model.specs.Field.{Fields, put, some, priorities}
+use Rattle.model.specs.Queue.{Queue, inside, upTo, isCondition, member, count, filter, toReady}
+use Rattle.model.specs.Queue.Queue.{ready, park, lock, condition}
+use Rattle.model.specs.Field.{Fields, put, some}
 use Rattle.model.specs.Field.Field.{clock, timer}
 use Rattle.model.specs.Rules.{calm, due, decide}
-use Rattle.model.specs.Machine.{State, model, finish, waiting}
+use Rattle.model.specs.Machine.{State, model, finish}
 use Rattle.model.specs.Valid.{Placed, Valid}
-use Rattle.model.proofs.Tests.{eqb-yes, eqb-no, or-split, inside-bounds, bounds-inside, denied}
-use Rattle.model.proofs.Lists.{member-here, member-there, filter-member, member-filter, upTo-member, member-upTo}
-use Rattle.model.proofs.Places.{sent, relocate, Movers, stands-moves, waiting-is}
-use Rattle.model.proofs.Loops.{later-timer, due-waits, due-moved}
+use Rattle.model.proofs.Tests.{holds, fails, SameCase, same-case, EqCase, eqb-case, eqb-no, inside-bounds, bounds-inside, denied, not-true}
+use Rattle.model.proofs.Lists.{filter-member, member-filter, upTo-member, member-upTo}
+use Rattle.model.proofs.Loops.{due-moved}
+use Rattle.model.proofs.Many.{without, filter-all, filter-none, filter-agree, filter-once, upTo-once}
 use Rattle.area.specs.Holds.{Holds, Becomes, with, Gives}
-use Rattle.area.proofs.Puts.{becomes-none, becomes-then}
-use Rattle.area.proofs.Rings.{member-inside}
+use Rattle.area.specs.Loose.{Loose, swept, staying, Crowd, Woken, ringing}
 use Rattle.area.specs.Calls.{Does}
+use Rattle.area.proofs.Puts.{becomes-none}
+use Rattle.area.proofs.Rings.{member-inside, queue-none}
+use Rattle.moves.proofs.Loose.{waits-in}
 use Rattle.moves.proofs.Outcomes.{accepts}
-use Rattle.wakes.proofs.Waking.{woken, woken-snoc}
+use Rattle.wakes.proofs.Waking.{woken, woken-becomes}
 
--- ---- the conditions, one after the other
+-- ---- the conditions, swept one after the other
 
-module _ (t : ℕ → Bool) where
-  -- one of them, so there is one
-  pub any-some : (n : ℕ) → anyOf n t ≡ true → 1 ≤ n
-  any-some zero e = absurd (false≢true e)
-  any-some (suc n) e = omega arith
+module _ (f : Fields) (time : ℕ) (qs : Queue → List ℕ) where
+  -- who stays where it is
+  abbrev stays : ℕ → Bool
+  stays x = not (eqb (f (timer x)) time)
 
-  -- it is true of one
-  pub any-where : (n : ℕ) → anyOf n t ≡ true → (c : ℕ) × (t c ≡ true)
-  any-where zero e = absurd (false≢true e)
-  any-where (suc n) e = go (t (suc n)) refl (λ k. any-where n k)
+  filter-twice : (xs : List ℕ) → filter stays (filter stays xs) ≡ filter stays xs
+  filter-twice xs = filter-all stays (filter stays xs) (λ x m. filter-member stays x xs m .1)
+
+  -- a queue that is swept once more
+  staying-filter : (k : ℕ) (q : Queue) → filter stays (staying f time k qs q) ≡ filter stays (qs q)
+  staying-filter zero q = refl
+  staying-filter (suc k) q = go (same-case (condition (suc k)) q) (λ o. staying-filter k o)
     where
-      go : (b : Bool) → t (suc n) ≡ b → (anyOf n t ≡ true → (c : ℕ) × (t c ≡ true)) → (c : ℕ) × (t c ≡ true)
-      go true h ih = (suc n, h)
-      go false h ih = ih (rw h at e)
+      go : SameCase (condition (suc k)) q → ((o : Queue) → filter stays (staying f time k qs o) ≡ filter stays (qs o)) → filter stays (staying f time (suc k) qs q) ≡ filter stays (qs q)
+      go (holds e z) ih = rw z (filter-twice (staying f time k qs (condition (suc k))) ∙ ih (condition (suc k)) ∙ ap {A = Queue} (λ o. filter stays (qs o)) e)
+      go (fails e z) ih = rw z (ih q)
 
-  -- none before c and not c
-  pub any-next : (c : ℕ) → 1 ≤ c → t c ≡ false → anyOf (c - 1) t ≡ false → anyOf (c + 1 - 1) t ≡ false
-  any-next zero h e k = let z : ⊥ = omega arith in absurd z
-  any-next (suc c) h e k =
-      let d : suc c + 1 - 1 ≡ suc c = omega arith in
-      let o : suc c - 1 ≡ c = omega arith in
-      rw (d, e) (rw o at k)
-
-  -- one of them and none before the last
-  pub any-last : (n c : ℕ) → c ≤ n → n ≤ c → anyOf n t ≡ true → anyOf (c - 1) t ≡ false → t c ≡ true
-  any-last zero c a b e k = absurd (false≢true e)
-  any-last (suc n) c a b e k =
-      let d : c ≡ suc n = omega arith in
-      let o : c - 1 ≡ n = omega arith in
-      let k′ : anyOf n t ≡ false = rw o at k in
-      rw d (last (t (suc n)) (rw k′ at e))
+  -- a queue that nobody leaves
+  staying-same : (k : ℕ) (q : Queue) → filter stays (qs q) ≡ qs q → staying f time k qs q ≡ qs q
+  staying-same zero q h = refl
+  staying-same (suc k) q h = go (same-case (condition (suc k)) q) (staying-same k q h)
     where
-      last : (b : Bool) → b || false ≡ true → b ≡ true
-      last true e = refl
-      last false e = absurd (false≢true e)
+      go : SameCase (condition (suc k)) q → staying f time k qs q ≡ qs q → staying f time (suc k) qs q ≡ qs q
+      go (holds e z) ih = rw z (staying-filter k (condition (suc k)) ∙ ap {A = Queue} (λ o. filter stays (qs o)) e ∙ h)
+      go (fails e z) ih = rw z ih
 
--- who waits in a condition is a process
-pub sleeper : {n : Shape} {ws : List ℕ} {s : State model} → Holds n ws s → (p : ℕ) → waiting n (s .queues) p ≡ true → inside (n .processes) p ≡ true
-sleeper {n} {s = s} H p w = let k = any-where (λ c. member p (s .queues (condition c))) (n .conditions) w in member-inside n s (H .placed) p (condition (k .0)) (k .1)
+  -- a condition that has been swept
+  staying-swept : (k c : ℕ) → inside k c ≡ true → staying f time k qs (condition c) ≡ filter stays (qs (condition c))
+  staying-swept zero c i = let b = inside-bounds 0 c i in let z : ⊥ = omega arith in absurd z
+  staying-swept (suc k) c i = go (same-case (condition (suc k)) (condition c)) (λ h. staying-swept k c h)
+    where
+      go : SameCase (condition (suc k)) (condition c) → (inside k c ≡ true → staying f time k qs (condition c) ≡ filter stays (qs (condition c))) → staying f time (suc k) qs (condition c) ≡ filter stays (qs (condition c))
+      go (holds e z) ih = rw z (staying-filter k (condition (suc k)) ∙ ap {A = Queue} (λ o. filter stays (qs o)) e)
+      go (fails e z) ih =
+          let b = inside-bounds (suc k) c i in
+          let d : c ≢ suc k = λ y. e (ap condition (sym y)) in
+          rw z (ih (bounds-inside k c (b .0) (omega arith)))
 
--- no word has changed
-pub held-still : {n : Shape} {old now : List ℕ} {s : State model} → now ≡ old → Holds n old s → Holds n now s
-held-still {n} {s = s} e H = subst (λ (ws : List ℕ). Holds n ws s) (sym e) H
+-- one condition more, and all of them
+pub sweep-next : {n : Shape} {old new : List ℕ} {f : Fields} (qs : Queue → List ℕ) (time k : ℕ) → Loose n old new f (swept f time (staying f time k qs) (condition (k + 1))) → Loose n old new f (staying f time (k + 1) qs)
+sweep-next qs time k L = rw (add-one k) (rw (add-one k) at L)
 
-pub becomes-still : {n : Shape} {old now new : List ℕ} {s : State model} → now ≡ old → Becomes n now new s → Becomes n old new s
-becomes-still {n} {new = new} {s} e b = subst (λ (ws : List ℕ). Becomes n ws new s) e b
+pub sweep-end : {n : Shape} {old new : List ℕ} {f : Fields} (qs : Queue → List ℕ) (time : ℕ) {k m : ℕ} → k ≡ m → Loose n old new f (staying f time k qs) → Loose n old new f (staying f time m qs)
+sweep-end {n} {old} {new} {f} qs time e L = subst (λ i. Loose n old new f (staying f time i qs)) e L
 
 -- ---- those who ring
 
--- the timer of p is not 0, and it is now
-abbrev rings : Fields → ℕ → ℕ → Bool
-rings f now p = some (f (timer p)) && eqb (f (timer p)) now
+module _ {n : Shape} {s : State model} (v : Valid n s) {time : ℕ} (some-time : time ≢ 0) where
+  -- nobody rings who waits in no condition
+  still : (q : Queue) (x : ℕ) → isCondition q ≡ false → member x (s .queues q) ≡ true → eqb (s .fields (timer x)) time ≡ false
+  still q x c m = eqb-no (s .fields (timer x)) time (λ e. some-time (sym e ∙ v .timers x (waits-in n s (v .placed) q x m ∙ c)))
 
--- of 1 to k
-abbrev ringing : Fields → ℕ → ℕ → List ℕ
-ringing f now k = filter (rings f now) (upTo k)
+  -- so no other queue is left by anybody
+  calm-queue : (q : Queue) → isCondition q ≡ false → staying (s .fields) time (n .conditions) (s .queues) q ≡ filter (λ x. not (eqb (s .fields (timer x)) time)) (s .queues q)
+  calm-queue q c =
+      let h = filter-all (λ x. not (eqb (s .fields (timer x)) time)) (s .queues q) (λ x m. rw (still q x c m)) in
+      staying-same (s .fields) time (s .queues) (n .conditions) q h ∙ sym h
 
-filter-last : (t : ℕ → Bool) (xs : List ℕ) (y : ℕ) → t y ≡ true → filter t (xs ++ (y ∷ [])) ≡ filter t xs ++ (y ∷ [])
-filter-last t [] y h = rw h
-filter-last t (x ∷ xs) y h = rw (filter-last t xs y h) (go (t x))
+  -- and each is left by those who ring
+  pub stays-all : (q : Queue) → staying (s .fields) time (n .conditions) (s .queues) q ≡ filter (λ x. not (eqb (s .fields (timer x)) time)) (s .queues q)
+  stays-all ready = calm-queue ready refl
+  stays-all (park k) = calm-queue (park k) refl
+  stays-all (lock l) = calm-queue (lock l) refl
+  stays-all (condition c) = go (inside (n .conditions) c) refl
+    where
+      go : (b : Bool) → inside (n .conditions) c ≡ b → staying (s .fields) time (n .conditions) (s .queues) (condition c) ≡ filter (λ x. not (eqb (s .fields (timer x)) time)) (s .queues (condition c))
+      go true i = staying-swept (s .fields) time (s .queues) (n .conditions) c i
+      go false i =
+          let e : s .queues (condition c) ≡ [] = queue-none n s (v .placed) (condition c) i in
+          let h : filter (λ x. not (eqb (s .fields (timer x)) time)) (s .queues (condition c)) ≡ s .queues (condition c) = rw e in
+          staying-same (s .fields) time (s .queues) (n .conditions) (condition c) h ∙ sym h
+
+-- those of the rule, at a time that is not 0
+pub due-ringing : (n : Shape) (f : Fields) {time : ℕ} → time ≢ 0 → due n f time ≡ ringing f time (n .processes)
+due-ringing n f {time} h = filter-agree (λ p. some (f (timer p)) && eqb (f (timer p)) time) (λ p. eqb (f (timer p)) time) (upTo (n .processes)) (λ p m. go (f (timer p)) (eqb-case (f (timer p)) time))
   where
-    go : (b : Bool) → cond b (x ∷ (filter t xs ++ (y ∷ []))) (filter t xs ++ (y ∷ [])) ≡ cond b (x ∷ filter t xs) (filter t xs) ++ (y ∷ [])
-    go true = refl
-    go false = refl
+    go : (t : ℕ) → EqCase t time → some t && eqb t time ≡ eqb t time
+    go t (holds e z) = rw (z, eqb-no t 0 (λ y. h (sym e ∙ y)))
+    go t (fails e z) = rw z (none (some t))
+      where
+        none : (b : Bool) → b && false ≡ false
+        none true = refl
+        none false = refl
 
-filter-skip : (t : ℕ → Bool) (xs : List ℕ) (y : ℕ) → t y ≡ false → filter t (xs ++ (y ∷ [])) ≡ filter t xs
-filter-skip t [] y h = rw h
-filter-skip t (x ∷ xs) y h = rw (filter-skip t xs y h)
+-- whether one of the processes rings
+rings-is : (f : Fields) (time P x : ℕ) → inside P x ≡ true → member x (ringing f time P) ≡ eqb (f (timer x)) time
+rings-is f time P x i = go (eqb (f (timer x)) time) refl
+  where
+    go : (b : Bool) → eqb (f (timer x)) time ≡ b → member x (ringing f time P) ≡ b
+    go true e = member-filter (λ y. eqb (f (timer y)) time) x (upTo P) (member-upTo P x i) e
+    go false e = denied (member x (ringing f time P)) (λ m. true≢false (sym (filter-member (λ y. eqb (f (timer y)) time) x (upTo P) m .1) ∙ e))
 
-filter-none : (t : ℕ → Bool) (xs : List ℕ) → ((x : ℕ) → t x ≡ false) → filter t xs ≡ []
-filter-none t [] h = refl
-filter-none t (x ∷ xs) h = rw (h x) (filter-none t xs h)
+module _ {n : Shape} {old mid : List ℕ} {s : State model} (H : Holds n old s) (v : Valid n s) {time : ℕ} (some-time : time ≢ 0)
+    (L : Loose n old mid (s .fields) (staying (s .fields) time (n .conditions) (s .queues))) where
+  abbrev ps : List ℕ
+  ps = ringing (s .fields) time (n .processes)
 
--- ---- who has not moved
+  pub ringer : (p : ℕ) → member p ps ≡ true → inside (n .processes) p ≡ true
+  ringer p m = upTo-member (n .processes) p (filter-member (λ x. eqb (s .fields (timer x)) time) p (upTo (n .processes)) m .0)
 
-relocate-other : (place : ℕ → Queue) (xs : List ℕ) (p : ℕ) → member p xs ≡ false → relocate place (toReady xs) p ≡ place p
-relocate-other place [] p h = refl
-relocate-other place (x ∷ xs) p h =
-    let k = or-split (eqb x p) (member p xs) h in
-    relocate-other (sent place (x, ready)) xs p (k .1) ∙ rw (k .0)
+  pub ringer-once : (p : ℕ) → member p ps ≡ true → eqb (s .fields (timer p)) time ≡ true
+  ringer-once p m = filter-member (λ x. eqb (s .fields (timer x)) time) p (upTo (n .processes)) m .1
 
-movers : (P : ℕ) (xs : List ℕ) → ((p : ℕ) → member p xs ≡ true → inside P p ≡ true) → Movers P (toReady xs)
-movers P [] h = tt
-movers P (x ∷ xs) h = (h x (member-here x xs), movers P xs (λ p m. h p (member-there p x xs m)))
+  pub ringer-out : (p : ℕ) (q : Queue) → member p ps ≡ true → member p (staying (s .fields) time (n .conditions) (s .queues) q) ≡ false
+  ringer-out p q m =
+      rw (stays-all v some-time q)
+      (denied (member p (filter (λ x. not (eqb (s .fields (timer x)) time)) (s .queues q)))
+      (λ k. true≢false (sym (ringer-once p m) ∙ not-true (eqb (s .fields (timer p)) time) (filter-member (λ x. not (eqb (s .fields (timer x)) time)) p (s .queues q) k .1))))
 
--- ---- the loop
+  pub ringers-distinct : (p : ℕ) → count p ps ≤ 1
+  ringers-distinct p = omega (arith, filter-once (λ x. eqb (s .fields (timer x)) time) p (upTo (n .processes)), upTo-once (n .processes) p)
 
--- those of 1 to k who ring have woken, m of them
-pub record Ringing (n : Shape) (old new : List ℕ) (s : State model) (now k m : ℕ) : Type 0 where
-  pub counts : m ≡ length (ringing (s .fields) now k)
-  pub becomes : Becomes n old new (woken (ringing (s .fields) now k) s)
+  abbrev pub ringers-wake : Crowd n mid ps
+  ringers-wake = record {
+    old = old;
+    fields = s .fields;
+    queues = staying (s .fields) time (n .conditions) (s .queues);
+    loose = L;
+    once = ringers-distinct;
+    process = ringer;
+    out = ringer-out;
+  }
 
--- at 0 nobody rings
-pub none-ring : {n : Shape} {old : List ℕ} {s : State model} {now : ℕ} → Holds n old s → now ≡ 0
+  pub ringers-woken : {new : List ℕ} → Woken n mid ps ringers-wake new → Becomes n old new (woken ps s)
+  ringers-woken =
+      woken-becomes H ps (staying (s .fields) time (n .conditions) (s .queues)) ringers-distinct ringer
+      (λ p m. rw (← stays-ready) (ringer-out p ready m)) stays-ready (λ q o. stays-all v some-time q ∙ left q)
+    where
+      left : (q : Queue) → filter (λ x. not (eqb (s .fields (timer x)) time)) (s .queues q) ≡ without ps (s .queues q)
+      left q = filter-agree (λ x. not (eqb (s .fields (timer x)) time)) (λ x. not (member x ps)) (s .queues q)
+          (λ x m. ap not (sym (rings-is (s .fields) time (n .processes) x (member-inside n s (H .placed) x q m))))
+
+      stays-ready : staying (s .fields) time (n .conditions) (s .queues) ready ≡ s .queues ready
+      stays-ready = stays-all v some-time ready ∙ filter-all (λ x. not (eqb (s .fields (timer x)) time)) (s .queues ready) (λ x m. rw (still v some-time ready x refl m))
+
+-- nobody rings
+pub none-ring : {n : Shape} {old : List ℕ} {s : State model} (now : ℕ) → Holds n old s → due n (s .fields) now ≡ []
     → (0 ≡ length (due n (s .fields) now)) × Becomes n old old (woken (due n (s .fields) now) s)
-none-ring {n} {old} {s} {now} H z =
-    let e : due n (s .fields) now ≡ [] = filter-none (rings (s .fields) now) (upTo (n .processes)) (λ p. at-zero (s .fields (timer p))) in
-    (rw e, rw e (becomes-none H))
+none-ring now H e = (rw e, rw e (becomes-none H))
+
+-- at 0 nobody does
+pub none-at-zero : (n : Shape) (f : Fields) {now : ℕ} → now ≡ 0 → due n f now ≡ []
+none-at-zero n f {now} z = filter-none (λ p. some (f (timer p)) && eqb (f (timer p)) now) (upTo (n .processes)) (λ p m. at-zero (f (timer p)))
   where
     go : (b : Bool) → not b && b ≡ false
     go true = refl
@@ -138,63 +185,18 @@ none-ring {n} {old} {s} {now} H z =
     at-zero : (t : ℕ) → some t && eqb t now ≡ false
     at-zero t = rw z (go (eqb t 0))
 
-module _ {n : Shape} {old : List ℕ} {s : State model} (H : Holds n old s) (v : Valid n s) {now : ℕ} where
-  pub ringing-start : Ringing n old old s now 0 0
-  ringing-start = record { counts = refl; becomes = becomes-none H }
+-- ---- whether somebody rings
 
-  module _ {mid : List ℕ} {k m x : ℕ} (r : Ringing n old mid s now k m) (reads : x ≡ woken (ringing (s .fields) now k) s .fields (timer (k + 1))) where
-    own-timer : x ≡ s .fields (timer (suc k))
-    own-timer = (rw (add-one k) at reads) ∙ later-timer (rings (s .fields) now) k (s .fields) (suc k) (omega arith)
+-- of 1 to k nobody does, and not the next
+pub none-next : (f : Fields) (time k x : ℕ) → x ≡ f (timer (k + 1)) → x ≢ time → ringing f time k ≡ [] → ringing f time (k + 1) ≡ []
+none-next f time k x reads h e = rw (add-one k) (skips (upTo k) ∙ e)
+  where
+    own : eqb (f (timer (suc k))) time ≡ false
+    own = rw (← (rw (add-one k) at reads)) (eqb-no x time h)
 
-    -- the next does not ring
-    pub ringing-skip : x ≢ now → Ringing n old mid s now (k + 1) m
-    ringing-skip h = record { counts = r .counts ∙ ap length (sym e); becomes = rw e (r .becomes) }
-      where
-        e : ringing (s .fields) now (k + 1) ≡ ringing (s .fields) now k
-        e = rw (add-one k) (filter-skip (rings (s .fields) now) (upTo k) (suc k) (rw (← own-timer, eqb-no x now h, and-false)))
-
-    module _ (some-time : now ≢ 0) (rung : x ≡ now) where
-      does-ring : rings (s .fields) now (suc k) ≡ true
-      does-ring = rw (← own-timer, eqb-no x 0 (λ e. some-time (sym rung ∙ e)), eqb-yes x now rung)
-
-      -- the next rings, and waits
-      pub ringing-waits : k + 1 ≤ n .processes → waiting n (woken (ringing (s .fields) now k) s .queues) (k + 1) ≡ true
-      ringing-waits h =
-          rw (add-one k)
-          (waiting-is n (woken early s .queues) (relocate place (toReady early)) (stands-moves (n .processes) (priorities (calm early (s .fields))) (toReady early) (s .queues) place (v .placed .once) (movers (n .processes) early inside-early)) (suc k) (λ i. rw here (v .placed .real (suc k) i))
-          ∙ rw here (sym (waiting-is n (s .queues) place (v .placed .once) (suc k) (v .placed .real (suc k))) ∙ due-waits n s v now (suc k) is-due))
-        where
-          early : List ℕ
-          early = ringing (s .fields) now k
-
-          place : ℕ → Queue
-          place = v .placed .place
-
-          passed : (p : ℕ) → member p early ≡ true → (1 ≤ p) × (p ≤ k)
-          passed p e = inside-bounds k p (upTo-member k p (filter-member (rings (s .fields) now) p (upTo k) e .0))
-
-          inside-early : (p : ℕ) → member p early ≡ true → inside (n .processes) p ≡ true
-          inside-early p e = let b = passed p e in bounds-inside (n .processes) p (b .0) (omega arith)
-
-          here : relocate place (toReady early) (suc k) ≡ place (suc k)
-          here = relocate-other place early (suc k) (denied (member (suc k) early) (λ e. let b = passed (suc k) e in omega arith))
-
-          is-due : member (suc k) (due n (s .fields) now) ≡ true
-          is-due = member-filter (rings (s .fields) now) (suc k) (upTo (n .processes)) (member-upTo (n .processes) (suc k) (bounds-inside (n .processes) (suc k) (omega arith) (omega arith))) does-ring
-
-      pub ringing-next : {new : List ℕ} → Becomes n mid new (woken ((k + 1) ∷ []) (woken (ringing (s .fields) now k) s)) → Ringing n old new s now (k + 1) (m + 1)
-      ringing-next b = record {
-        counts = rw (e, length-append (ringing (s .fields) now k) (suc k ∷ []), ← r .counts);
-        becomes = becomes-then (r .becomes) (rw (e, woken-snoc (ringing (s .fields) now k) (suc k) s) (rw (add-one k) at b));
-      }
-        where
-          e : ringing (s .fields) now (k + 1) ≡ ringing (s .fields) now k ++ (suc k ∷ [])
-          e = rw (add-one k) (filter-last (rings (s .fields) now) (upTo k) (suc k) does-ring)
-
-  -- all have been passed
-  pub ringing-end : {mid : List ℕ} {k m : ℕ} → Ringing n old mid s now k m → k ≤ n .processes → n .processes ≤ k
-      → (m ≡ length (due n (s .fields) now)) × Becomes n old mid (woken (due n (s .fields) now) s)
-  ringing-end {mid} {k} {m} r a b = let e : k ≡ n .processes = omega arith in let q : Ringing n old mid s now (n .processes) m = rw e at r in (q .counts, q .becomes)
+    skips : (xs : List ℕ) → filter (λ y. eqb (f (timer y)) time) (xs ++ (suc k ∷ [])) ≡ filter (λ y. eqb (f (timer y)) time) xs
+    skips [] = rw own
+    skips (y ∷ ys) = rw (skips ys)
 
 -- ---- the call
 

@@ -14,6 +14,7 @@ use crate::sample;
 pub fn run(tally: &mut Tally, random: &mut Random) -> Outcome {
     ledger::histories(tally, random, compare)?;
     scattered_states(tally, random)?;
+    crowds(tally, random)?;
     boundaries(tally, random)?;
     long_areas(tally, random)?;
     damaged_areas(tally, random)
@@ -40,6 +41,23 @@ fn scattered_states(tally: &mut Tally, random: &mut Random) -> Outcome {
         let mut lent = Guarded::new(&state.words());
         for _ in 0..4 {
             let call = history::any_call(random, &shape, 8);
+            compare(tally, &mut lent, &call)?;
+        }
+    }
+    Ok(())
+}
+
+/// Broadcasts and ticks on areas of all sizes, where many wait on few conditions or on many.
+fn crowds(tally: &mut Tally, random: &mut Random) -> Outcome {
+    for _ in 0..600 {
+        let shape = sample::wide_shape(random);
+        let state = sample::state(random, shape);
+        let mut lent = Guarded::new(&state.words());
+        for _ in 0..6 {
+            let call = match random.below(2) {
+                0 => Call::Tick,
+                _ => Call::Broadcast(random.between(1, shape.conditions)),
+            };
             compare(tally, &mut lent, &call)?;
         }
     }

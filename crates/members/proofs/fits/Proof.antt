@@ -1,65 +1,58 @@
--- `members::fits` meets its contract: one test after the other, as `fitting` has them. Assumes nothing.
-use Rattle.members.proofs.Steps.{fit-rises, fit-idle, fit-waits, fit-flagged, fit-timed, fit-blocked, fit-plain}
+-- `members::fits` meets its contract: each way out is one way to fail `fitting`, or what is left of it. Assumes nothing.
+use mathlib.Core.Path.{_∙_}
 use borrow.Author.Needs.{needs}
+use Rattle.members.proofs.Steps.{fit-odd, fit-rises, fit-waits, fit-timed, fit-blocked, fit-plain}
 use Rattle.members.proofs.fits.Statement.{statement}
 use Rattle.members.proofs.fits.Tie as tie
+
+flags-of-requires : tie.Need-flags-of-requires
+flags-of-requires c κs = search needs
+
+returns : tie.Need-returns
+returns c = fit-odd _ _ _ _ _ _ (c .before .flags-of .ensures .0) (c .before .flags-of .ensures .1) (c .if1 .taken)
 
 priority-field-requires : tie.Need-priority-field-requires
 priority-field-requires c κs = search needs
 
-returns : tie.Need-returns
-returns c = fit-rises _ _ _ _ _ (rw (c .before .priority-field .ensures) at (c .if1 .taken))
-
 returns-2 : tie.Need-returns-2
-returns-2 c =
-    let priority-field = c .before .before .before .priority-field in
-    let if1 = c .before .before .if1 in
-    fit-idle _ _ _ _ _ (rw (priority-field .ensures) at (if1 .left)) (c .before .if2 .taken) (c .if3 .taken)
+returns-2 c = fit-rises _ _ _ _ _ (rw (c .before .priority-field .ensures) at (c .if2 .taken))
 
 returns-3 : tie.Need-returns-3
 returns-3 c =
-    let priority-field = c .before .before .before .priority-field in
-    let if1 = c .before .before .if1 in
-    fit-waits _ _ _ _ _ (rw (priority-field .ensures) at (if1 .left)) (c .before .if2 .taken) (c .if3 .left)
+    let p = c .before .before in
+    let i = p .before in
+    fit-waits _ _ _ _ _ (rw (p .priority-field .ensures) at (c .before .if2 .left)) (c .if3 .taken) (i .if1 .left ∙ i .before .flags-of .ensures .0 (c .if3 .taken))
 
 returns-4 : tie.Need-returns-4
 returns-4 c =
-    let priority-field = c .before .before .before .priority-field in
-    let if1 = c .before .before .if1 in
-    fit-flagged _ _ _ _ _ (rw (priority-field .ensures) at (if1 .left)) (c .before .if2 .left) (c .if4 .taken)
+    let p = c .before .before .before in
+    let i = p .before in
+    let other = c .before .if3 .left in
+    fit-timed _ _ _ _ _ (rw (p .priority-field .ensures) at (c .before .before .if2 .left)) other (i .if1 .left ∙ i .before .flags-of .ensures .1 other) (c .if4 .taken)
 
 returns-5 : tie.Need-returns-5
 returns-5 c =
-    let priority-field = c .before .before .before .before .priority-field in
-    let if1 = c .before .before .before .if1 in
-    let if2 = c .before .before .if2 in
-    fit-timed _ _ _ _ _ (rw (priority-field .ensures) at (if1 .left)) (if2 .left) (c .before .if4 .left) (c .if5 .taken)
+    let p = c .before .before .before .before in
+    let i = p .before in
+    let other = c .before .before .if3 .left in
+    fit-blocked _ _ _ _ _ (rw (p .priority-field .ensures) at (c .before .before .before .if2 .left)) other (i .if1 .left ∙ i .before .flags-of .ensures .1 other) (c .before .if4 .left) (c .if5 .taken)
 
 returns-6 : tie.Need-returns-6
 returns-6 c =
-    let priority-field = c .before .before .before .before .before .priority-field in
-    let if1 = c .before .before .before .before .if1 in
-    let if2 = c .before .before .before .if2 in
-    let if4 = c .before .before .if4 in
-    fit-blocked _ _ _ _ _ (rw (priority-field .ensures) at (if1 .left)) (if2 .left) (if4 .left) (c .before .if5 .left) (c .if6 .taken)
-
-returns-7 : tie.Need-returns-7
-returns-7 c =
-    let priority-field = c .before .before .before .before .before .priority-field in
-    let if1 = c .before .before .before .before .if1 in
-    let if2 = c .before .before .before .if2 in
-    let if4 = c .before .before .if4 in
-    fit-plain _ _ _ _ _ (rw (priority-field .ensures) at (if1 .left)) (if2 .left) (if4 .left) (c .before .if5 .left) (c .if6 .left)
+    let p = c .before .before .before .before in
+    let i = p .before in
+    let other = c .before .before .if3 .left in
+    fit-plain _ _ _ _ _ (rw (p .priority-field .ensures) at (c .before .before .before .if2 .left)) other (i .if1 .left ∙ i .before .flags-of .ensures .1 other) (c .before .if4 .left) (c .if5 .left)
 
 pub fits-spec : {M : Type 1} → statement M
 fits-spec =
     tie.close
     (tie.spec
-    priority-field-requires
+    flags-of-requires
     returns
+    priority-field-requires
     returns-2
     returns-3
     returns-4
     returns-5
-    returns-6
-    returns-7)
+    returns-6)

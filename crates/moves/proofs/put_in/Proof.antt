@@ -1,6 +1,6 @@
 -- `moves::put_in` meets its contract: the records are lent to the rings, and what comes back changes one ring. Assumes nothing.
 use borrow.Author.Needs.{needs}
-use Rattle.moves.proofs.Relinks.{tail-below, tail-again, joins-stands, joins-ring, joins-falls, joined-relinks}
+use Rattle.moves.proofs.Relinks.{tail-below, tail-again, lent-join, back-join}
 use Rattle.ring.proofs.Rings.{ring-tail-small}
 use Rattle.moves.proofs.put_in.Statement.{statement}
 use Rattle.moves.proofs.put_in.Tie as tie
@@ -31,20 +31,15 @@ next-field-requires c κs = search needs
 
 join-requires : tie.Need-join-requires
 join-requires c κs =
-    let pre = c .before .before .before .before .before .pre in
-    let records-at = c .before .before .before .records-at in
-    let j = pre in
-    (joins-stands j (records-at .result) (c .next-field .result) (records-at .ensures) (c .next-field .ensures), (_, joins-ring j (records-at .result) (c .next-field .result) (records-at .ensures) (c .next-field .ensures), joins-falls j (records-at .result) (c .next-field .result) (records-at .ensures) (c .next-field .ensures), j .out (j .queue)))
+    let j = c .before .before .before .before .before .pre in
+    let L = lent-join j (c .before .before .before .records-at .ensures) (c .next-field .ensures) in
+    (L .0, (_, L .1, L .2, j .out (j .queue)))
 
 with-next-requires : tie.Need-with-next-requires
 with-next-requires c κs =
-    let pre = c .before .before .before .before .before .before .before .before .pre in
-    let records-at = c .before .before .before .before .before .before .records-at in
-    let next-field = c .before .before .before .next-field in
-    let join = c .before .before .join in
-    let j = pre in
-    let l = join .ensures _ (joins-ring j (records-at .result) (next-field .result) (records-at .ensures) (next-field .ensures)) (joins-falls j (records-at .result) (next-field .result) (records-at .ensures) (next-field .ensures)) (j .out (j .queue)) in
-    ring-tail-small _ (l .ring)
+    let j = c .before .before .before .before .before .before .before .before .pre in
+    let L = lent-join j (c .before .before .before .before .before .before .records-at .ensures) (c .before .before .before .next-field .ensures) in
+    ring-tail-small _ (c .before .before .join .ensures _ (L .1) (L .2) (j .out (j .queue)) .ring)
 
 mul-area : tie.Need-mul-area
 mul-area c =
@@ -68,10 +63,11 @@ same-length c = search needs
 
 returns : tie.Need-returns
 returns c j =
-    let records-at = c .before .before .before .before .before .before .before .records-at in
-    let next-field = c .before .before .before .before .next-field in
+    let at-records = c .before .before .before .before .before .before .before .records-at .ensures in
+    let reads = c .before .before .before .before .next-field .ensures in
     let join = c .before .before .before .join in
-    joined-relinks j (records-at .result) (next-field .result) (records-at .ensures) (next-field .ensures) (join .last .0) (join .result) (c .with-next .result) (join .ensures _ (joins-ring j (records-at .result) (next-field .result) (records-at .ensures) (next-field .ensures)) (joins-falls j (records-at .result) (next-field .result) (records-at .ensures) (next-field .ensures)) (j .out (j .queue))) (c .with-next .ensures)
+    let L = lent-join j at-records reads in
+    back-join j at-records reads (join .last .0) (join .result) (c .with-next .result) (join .ensures _ (L .1) (L .2) (j .out (j .queue))) (c .with-next .ensures)
 
 pub put-in-spec : {M : Type 1} → statement M
 put-in-spec =

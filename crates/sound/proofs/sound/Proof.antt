@@ -1,17 +1,17 @@
--- `sound::sound` meets its contract: past its tests the counts, running and the three passes are what `Check` asks for, and each way out before the end
+-- `sound::sound` meets its contract: past its tests the counts, the three passes and running are what `Check` asks for, and each way out before the end
 -- contradicts a clause of soundness. Assumes nothing.
 use denote.Ref.{now}
 use Prim.Native.Nat.{_≤_}
 use native.Mathlib.Omega.{arith}
-use mathlib.Core.Path.{refl}
+use mathlib.Core.Path.{refl, sym, _∙_}
 use lib.ListN.{length}
 use borrow.Author.Needs.{needs}
 use Rattle.area.specs.Layout.{size}
 use Rattle.heads.specs.First.{Counted}
 use Rattle.members.proofs.Chains.{Words}
 use Rattle.members.proofs.Marks.{clear}
-use Rattle.sound.proofs.Check.{decides-yes, decides-no, uncounted, unready, broken-1, broken-2, finished, refuses}
-use Rattle.sound.proofs.Queues.{counted-long, lent-first, lent-runs, lent-within, lent-visits}
+use Rattle.sound.proofs.Check.{Past, decides-yes, decides-no, uncounted, broken-1, broken-2, uneven, finished, refuses}
+use Rattle.sound.proofs.Queues.{counted-long, lent-count, lent-led, lent-runs, lent-within, lent-visits}
 use Rattle.sound.proofs.sound.Statement.{statement}
 use Rattle.sound.proofs.sound.Tie as tie
 
@@ -32,13 +32,10 @@ long c = counted-long (c .before .shape-of .ensures) (counts (c .before .before)
 
 -- from behind each later test back to the records
 abbrev from-2 : tie.Else2 → tie.After-records-at
-from-2 c = c .before .before .before
+from-2 c = c .before .before .before .before .before .before
 
 abbrev from-3 : tie.Else3 → tie.After-records-at
-from-3 c = from-2 (c .before .before .before .before .before)
-
-abbrev from-4 : tie.Else4 → tie.After-records-at
-from-4 c = from-3 (c .before .before .before .before .before .before)
+from-3 c = from-2 (c .before .before .before .before .before .before)
 
 counted-requires : tie.Need-counted-requires
 counted-requires c κs = search needs
@@ -66,24 +63,11 @@ part-records-start c = omega (arith, long c)
 part-records-end : tie.Need-part-records-end
 part-records-end c = search needs
 
-runs-requires : tie.Need-runs-requires
-runs-requires c κs =
-    let r = c .before in
-    let e = r .before .before in
-    lent-first _ (r .before .shape-of .ensures) (r .records-at .ensures) (counts e)
-
-returns-2 : tie.Need-returns-2
-returns-2 c =
-    let r = c .before .before .before in
-    let e = r .before .before in
-    let ws = now (e .before .before .before .args .area) in
-    refuses (unready ws (small e) (decides-no (c .before .runs .result) (lent-runs ws (r .before .shape-of .ensures) (r .records-at .ensures) (c .before .runs .result) (c .before .runs .ensures)) (c .if2 .taken)))
-
 sub-rings : tie.Need-sub-rings
-sub-rings c = omega (arith, long (from-2 c))
+sub-rings c = omega (arith, long (c .before))
 
 part-rings-start : tie.Need-part-rings-start
-part-rings-start c = omega (arith, long (from-2 c))
+part-rings-start c = omega (arith, long (c .before))
 
 part-rings-end : tie.Need-part-rings-end
 part-rings-end c = search needs
@@ -96,29 +80,29 @@ add-rings c = search needs
 
 rings-requires : tie.Need-rings-requires
 rings-requires c κs =
-    let r = from-2 (c .before .before .before) in
+    let r = c .before .before .before .before in
     let e = r .before .before in
     lent-within _ (r .before .shape-of .ensures) (r .records-at .ensures) (counts e) (small e) 0 (omega arith) refl
 
-returns-3 : tie.Need-returns-3
+returns-2 : tie.Need-returns-2
 unfolding clear
-returns-3 c =
-    let r = from-2 (c .before .before .before .before .before) in
+returns-2 c =
+    let r = c .before .before .before .before .before .before in
     let e = r .before .before in
     let ws = now (e .before .before .before .args .area) in
-    refuses (broken-1 ws (small e) (counts e) _ _ (lent-visits ws (r .before .shape-of .ensures) (r .records-at .ensures) 0 (omega arith) refl _ _ _ _ (c .before .rings .ensures)) (c .if3 .taken))
+    refuses (broken-1 ws (small e) (counts e) _ _ (lent-visits ws (r .before .shape-of .ensures) (r .records-at .ensures) 0 (omega arith) refl _ _ _ _ (c .before .rings .ensures)) (c .if2 .taken))
 
-locks-at-requires : tie.Need-locks-at-requires
-locks-at-requires c κs = search needs
+conditions-at-requires : tie.Need-conditions-at-requires
+conditions-at-requires c κs = search needs
 
 mul-rings : tie.Need-mul-rings
 mul-rings c = search needs
 
 sub-rings-2 : tie.Need-sub-rings-2
-sub-rings-2 c = omega (arith, long (from-3 (c .before)))
+sub-rings-2 c = omega (arith, long (from-2 (c .before)))
 
 part-rings-start-2 : tie.Need-part-rings-start-2
-part-rings-start-2 c = omega (arith, long (from-3 (c .before)))
+part-rings-start-2 c = omega (arith, long (from-2 (c .before)))
 
 part-rings-end-2 : tie.Need-part-rings-end-2
 part-rings-end-2 c = search needs
@@ -129,32 +113,32 @@ cast-rings-2 c = search needs
 rings-requires-2 : tie.Need-rings-requires-2
 rings-requires-2 c κs =
     let l = c .before .before .before in
-    let r = from-3 (l .before) in
+    let r = from-2 (l .before) in
     let e = r .before .before in
-    lent-within _ (r .before .shape-of .ensures) (r .records-at .ensures) (counts e) (small e) 1 (omega arith) (l .locks-at .ensures)
+    lent-within _ (r .before .shape-of .ensures) (r .records-at .ensures) (counts e) (small e) 2 (omega arith) (l .conditions-at .ensures)
 
-returns-4 : tie.Need-returns-4
+returns-3 : tie.Need-returns-3
 unfolding clear
-returns-4 c =
+returns-3 c =
     let l = c .before .before .before .before .before in
-    let i3 = l .before in
-    let r = from-3 i3 in
+    let i2 = l .before in
+    let r = from-2 i2 in
     let e = r .before .before in
     let ws = now (e .before .before .before .args .area) in
-    refuses (broken-2 ws (small e) (counts e) _ _ (lent-visits ws (r .before .shape-of .ensures) (r .records-at .ensures) 0 (omega arith) refl _ _ _ _ (i3 .before .rings .ensures)) (i3 .if3 .left)
-    _ _ (lent-visits ws (r .before .shape-of .ensures) (r .records-at .ensures) 1 (omega arith) (l .locks-at .ensures) _ _ _ _ (c .before .rings2 .ensures)) (c .if4 .taken))
+    refuses (broken-2 ws (small e) (counts e) _ _ (lent-visits ws (r .before .shape-of .ensures) (r .records-at .ensures) 0 (omega arith) refl _ _ _ _ (i2 .before .rings .ensures)) (i2 .if2 .left)
+    _ _ (lent-visits ws (r .before .shape-of .ensures) (r .records-at .ensures) 2 (omega arith) (l .conditions-at .ensures) _ _ _ _ (c .before .rings2 .ensures)) (c .if3 .taken))
 
-conditions-at-requires : tie.Need-conditions-at-requires
-conditions-at-requires c κs = search needs
+locks-at-requires : tie.Need-locks-at-requires
+locks-at-requires c κs = search needs
 
 mul-rings-2 : tie.Need-mul-rings-2
 mul-rings-2 c = search needs
 
 sub-rings-3 : tie.Need-sub-rings-3
-sub-rings-3 c = omega (arith, long (from-4 (c .before)))
+sub-rings-3 c = omega (arith, long (from-3 (c .before)))
 
 part-rings-start-3 : tie.Need-part-rings-start-3
-part-rings-start-3 c = omega (arith, long (from-4 (c .before)))
+part-rings-start-3 c = omega (arith, long (from-3 (c .before)))
 
 part-rings-end-3 : tie.Need-part-rings-end-3
 part-rings-end-3 c = search needs
@@ -165,29 +149,53 @@ cast-rings-3 c = search needs
 rings-requires-3 : tie.Need-rings-requires-3
 rings-requires-3 c κs =
     let k = c .before .before .before in
-    let r = from-4 (k .before) in
+    let r = from-3 (k .before) in
     let e = r .before .before in
-    lent-within _ (r .before .shape-of .ensures) (r .records-at .ensures) (counts e) (small e) 2 (omega arith) (k .conditions-at .ensures)
+    lent-within _ (r .before .shape-of .ensures) (r .records-at .ensures) (counts e) (small e) 1 (omega arith) (k .locks-at .ensures)
 
-cast-result : tie.Need-cast-result
-cast-result c = search needs
+cast-if4 : tie.Need-cast-if4
+cast-if4 c = search needs
 
-returns-5 : tie.Need-returns-5
+returns-4 : tie.Need-returns-4
 unfolding clear
-returns-5 c =
-    let k = c .before .before .before .before .before in
-    let i4 = k .before in
-    let l = i4 .before .before .before .before .before in
-    let i3 = l .before in
-    let i2 = i3 .before .before .before .before .before in
+returns-4 c =
+    let k = c .before .before .before .before .before .before in
+    let i3 = k .before in
+    let l = i3 .before .before .before .before .before in
+    let i2 = l .before in
     let r = from-2 i2 in
     let e = r .before .before in
     let ws = now (e .before .before .before .args .area) in
-    rw (r .before .shape-of .ensures)
-    (finished ws (small e) (counts e) _ _ (lent-visits ws (r .before .shape-of .ensures) (r .records-at .ensures) 0 (omega arith) refl _ _ _ _ (i3 .before .rings .ensures)) (i3 .if3 .left)
-    _ _ (lent-visits ws (r .before .shape-of .ensures) (r .records-at .ensures) 1 (omega arith) (l .locks-at .ensures) _ _ _ _ (i4 .before .rings2 .ensures)) (i4 .if4 .left)
-    _ _ (lent-visits ws (r .before .shape-of .ensures) (r .records-at .ensures) 2 (omega arith) (k .conditions-at .ensures) _ _ _ _ (c .before .rings3 .ensures))
-    (decides-yes (i2 .before .runs .result) (lent-runs ws (r .before .shape-of .ensures) (r .records-at .ensures) (i2 .before .runs .result) (i2 .before .runs .ensures)) (i2 .if2 .left)))
+    refuses (uneven ws (small e) (counts e) _ _ (lent-visits ws (r .before .shape-of .ensures) (r .records-at .ensures) 0 (omega arith) refl _ _ _ _ (i2 .before .rings .ensures)) (i2 .if2 .left)
+    _ _ (lent-visits ws (r .before .shape-of .ensures) (r .records-at .ensures) 2 (omega arith) (l .conditions-at .ensures) _ _ _ _ (i3 .before .rings2 .ensures)) (i3 .if3 .left)
+    _ _ (lent-visits ws (r .before .shape-of .ensures) (r .records-at .ensures) 1 (omega arith) (k .locks-at .ensures) _ _ _ _ (c .before .before .rings3 .ensures))
+    (λ f. c .if4 .taken (f ∙ sym (lent-count ws (r .before .shape-of .ensures) (r .records-at .ensures)))))
+
+-- past the last test every process is met once
+past : (c : tie.Else4) → Past (now (from-3 (c .before .before .before .before .before .before .before) .before .before .before .before .before .args .area))
+unfolding clear
+past c =
+    let k = c .before .before .before .before .before .before in
+    let i3 = k .before in
+    let l = i3 .before .before .before .before .before in
+    let i2 = l .before in
+    let r = from-2 i2 in
+    let e = r .before .before in
+    let ws = now (e .before .before .before .args .area) in
+    finished ws (small e) (counts e) _ _ (lent-visits ws (r .before .shape-of .ensures) (r .records-at .ensures) 0 (omega arith) refl _ _ _ _ (i2 .before .rings .ensures)) (i2 .if2 .left)
+    _ _ (lent-visits ws (r .before .shape-of .ensures) (r .records-at .ensures) 2 (omega arith) (l .conditions-at .ensures) _ _ _ _ (i3 .before .rings2 .ensures)) (i3 .if3 .left)
+    _ _ (lent-visits ws (r .before .shape-of .ensures) (r .records-at .ensures) 1 (omega arith) (k .locks-at .ensures) _ _ _ _ (c .before .before .rings3 .ensures))
+    (c .if4 .left ∙ lent-count ws (r .before .shape-of .ensures) (r .records-at .ensures))
+
+runs-requires : tie.Need-runs-requires
+runs-requires c κs =
+    let r = from-3 (c .before .before .before .before .before .before .before) in
+    lent-led _ (r .before .shape-of .ensures) (r .records-at .ensures) (counts (r .before .before)) (past c .led)
+
+returns-5 : tie.Need-returns-5
+returns-5 c =
+    let r = from-3 (c .before .before .before .before .before .before .before .before) in
+    past (c .before) .decided (c .runs .result) (lent-runs _ (r .before .shape-of .ensures) (r .records-at .ensures) (c .runs .result) (c .runs .ensures))
 
 pub sound-spec : {M : Type 1} → statement M
 sound-spec =
@@ -201,29 +209,29 @@ sound-spec =
     sub-records
     part-records-start
     part-records-end
-    runs-requires
-    returns-2
     sub-rings
     part-rings-start
     part-rings-end
     cast-rings
     add-rings
     rings-requires
-    returns-3
-    locks-at-requires
+    returns-2
+    conditions-at-requires
     mul-rings
     sub-rings-2
     part-rings-start-2
     part-rings-end-2
     cast-rings-2
     rings-requires-2
-    returns-4
-    conditions-at-requires
+    returns-3
+    locks-at-requires
     mul-rings-2
     sub-rings-3
     part-rings-start-3
     part-rings-end-3
     cast-rings-3
     rings-requires-3
-    cast-result
+    cast-if4
+    returns-4
+    runs-requires
     returns-5)

@@ -1,9 +1,8 @@
--- `wakes::notify` meets its contract: the refusals of Notify, and else its signal. Assumes nothing.
-use mathlib.Core.Path.{refl, _∙_}
-use borrow.Author.Needs.{needs}
+-- `wakes::notify` meets its contract: the refusals of Notify, and else its first wakes. Assumes nothing.
 use Rattle.model.specs.Field.Field.{running}
-use Rattle.moves.proofs.Outcomes.{calling-runs, calling-there}
-use Rattle.wakes.proofs.Waking.{notify-refused}
+use Rattle.moves.proofs.Outcomes.{calling-there}
+use Rattle.wakes.proofs.Waking.{notify-refused, notify-first}
+use borrow.Author.Needs.{needs}
 use Rattle.wakes.proofs.notify.Statement.{statement}
 use Rattle.wakes.proofs.notify.Tie as tie
 
@@ -11,7 +10,7 @@ running-requires : tie.Need-running-requires
 running-requires c κs = search needs
 
 get-requires : tie.Need-get-requires
-get-requires c κs = (c .before .before .before .args .shape, running, (c .before .before .before .pre .state, c .before .before .before .pre .holds), c .running .ensures (c .before .before .before .args .shape))
+get-requires c κs = let s = c .before .before .before in (s .args .shape, running, (s .pre .state, s .pre .holds), c .running .ensures (s .args .shape))
 
 calling-requires : tie.Need-calling-requires
 calling-requires c κs = search needs
@@ -24,20 +23,23 @@ same-length c = search needs
 
 returns : tie.Need-returns
 returns c s H v =
-    let n = c .before .before .before .before .before .before .before .args .shape in
-    notify-refused H (c .before .before .before .before .before .before .before .args .condition) (c .before .before .before .get .ensures n s running H (c .before .before .before .before .running .ensures n)) (c .before .before .calling .ensures) (c .before .if1 .taken) (c .refusal .ensures)
+    let u = c .before .before .before .before .before .before .before .args in
+    notify-refused H (u .condition) (c .before .before .before .get .ensures (u .shape) s running H (c .before .before .before .before .running .ensures (u .shape))) (c .before .before .calling .ensures) (c .before .if1 .taken) (c .refusal .ensures)
 
-signal-requires : tie.Need-signal-requires
-signal-requires c κs = ((c .before .before .before .before .before .before .before .pre .state, c .before .before .before .before .before .before .before .pre .holds), calling-there (c .before .before .calling .ensures) (c .before .if1 .left))
+wake-first-requires : tie.Need-wake-first-requires
+wake-first-requires c κs = let s = c .before .before .before .before .before .before .before in ((s .pre .state, s .pre .holds), calling-there (c .before .before .calling .ensures) (c .before .if1 .left))
+
+finish-requires : tie.Need-finish-requires
+finish-requires c κs = let s = c .before .before .before .before .before .before .before .before .before .before .before in (_, c .before .before .before .wake-first .ensures (s .pre .state) (s .pre .holds) .1 .holds)
 
 same-length-2 : tie.Need-same-length-2
 same-length-2 c = search needs
 
 returns-2 : tie.Need-returns-2
 returns-2 c s H v =
-    let n = c .before .before .before .before .before .before .before .before .before .before .args .shape in
-    let runs = c .before .before .before .before .before .before .get .ensures n s running H (c .before .before .before .before .before .before .before .running .ensures n) in
-    c .before .before .signal .ensures s H .1 refl (λ e. calling-runs (c .before .before .before .before .before .calling .ensures) (c .before .before .before .before .if1 .left) (runs ∙ e))
+    let u = c .before .before .before .before .before .before .before .before .before .before .before .before .before .before .args in
+    let w = c .before .before .before .before .before .before .wake-first .ensures s H in
+    notify-first H (u .condition) (c .before .before .before .before .before .before .before .before .before .before .get .ensures (u .shape) s running H (c .before .before .before .before .before .before .before .before .before .before .before .running .ensures (u .shape))) (c .before .before .before .before .before .before .before .before .before .calling .ensures) (c .before .before .before .before .before .before .before .before .if1 .left) (w .0) (w .1) (c .before .before .finish .ensures _ (w .1 .holds))
 
 pub notify-spec : {M : Type 1} → statement M
 notify-spec =
@@ -49,6 +51,7 @@ notify-spec =
     refusal-requires
     same-length
     returns
-    signal-requires
+    wake-first-requires
+    finish-requires
     same-length-2
     returns-2)

@@ -1,0 +1,48 @@
+-- The records, lent as a part: a word of it is a word of the area behind the front, so a part is read and written there as in the area. Assumes nothing.
+use Prim.Native.Nat.{ℕ, suc, _+_, _*_, _/_, _%_, _≤_, _<_}
+use native.Mathlib.Omega.{arith}
+use mathlib.Core.Path.{_≡_, refl, sym, ap, _∙_}
+use mathlib.Core.Bool.{true}
+use mathlib.Core.List.{List, [], _∷_, _++_}
+use lib.ListN.{length, getD, set, length-append}
+use lib.Seq.{getD-append-add}
+use Rattle.model.specs.declared.Shape.{Shape}
+use Rattle.model.specs.Queue.{inside}
+use Rattle.model.specs.Field.Field.{timer}
+use Rattle.model.proofs.Tests.{inside-bounds}
+use Rattle.ring.specs.Link.{slot}
+use Rattle.area.specs.Layout.{Part, Parts, alter, unit, span, home, has, at, recordsAt, Image, Stored}
+use Rattle.area.specs.Layout.Part.{kept, waiting}
+use Rattle.area.specs.Layout.Slot.{Timer}
+use Rattle.area.proofs.Stores.{store, stored-then}
+
+set-behind : (xs ys : List ℕ) (j v : ℕ) → set (xs ++ ys) (length xs + j) v ≡ xs ++ set ys j v
+set-behind [] ys j v = ap (λ i. set ys i v) (let e : 0 + j ≡ j = omega arith in e)
+set-behind (x ∷ xs) ys j v =
+    ap (λ i. set (x ∷ (xs ++ ys)) i v) (let e : length (x ∷ xs) + j ≡ suc (length xs + j) = omega arith in e) ∙ ap (λ (l : List ℕ). x ∷ l) (set-behind xs ys j v)
+
+module _ {n : Shape} (front r : List ℕ) {t : Parts} (fits : length front ≡ recordsAt n) (im : Image n (front ++ r) t) where
+  -- p's words are there
+  pub lent-within : (p : ℕ) → inside (n .processes) p ≡ true → (1 ≤ p) × (p * 3 ≤ length r)
+  lent-within p h = let b = inside-bounds (n .processes) p h in (b .0, omega (arith, im .long, length-append front r, b .1))
+
+  lent-word : (j i : ℕ) → i ≡ recordsAt n + j → getD (front ++ r) i 0 ≡ getD r j 0
+  lent-word j i e = ap (λ k. getD (front ++ r) k 0) (let k : i ≡ length front + j = omega arith in k) ∙ getD-append-add front r j 0
+
+  pub lent-timer : {p : ℕ} → inside (n .processes) p ≡ true → getD r (slot p + 2) 0 ≡ t (kept (timer p))
+  lent-timer {p} h = sym (lent-word (slot p + 2) (at n (Timer p)) (omega arith)) ∙ im .words (Timer p) h
+
+  lent-store : (f : Part) (x j v u k : ℕ) → has n (home f) ≡ true → at n (home f) ≡ recordsAt n + j → x < span f → unit f ≡ u → span f ≡ k → v + getD r j 0 / u % k * u ≡ getD r j 0 + x * u
+      → Stored n (front ++ r) (front ++ set r j v) (alter f x t)
+  lent-store f x j v u k ok here small eu ek e =
+      rw (← set-behind front r j v, fits)
+      (store n (front ++ r) t im f x (recordsAt n + j) ok small (sym here) u k v (getD r j 0) eu ek (sym (lent-word j (recordsAt n + j) refl)) e)
+
+-- the timer is 0, and then the waiting bit clear
+pub awake-stored : {n : Shape} (front r : List ℕ) {t : Parts} {p : ℕ} (v : ℕ) → length front ≡ recordsAt n → Image n (front ++ r) t → inside (n .processes) p ≡ true
+    → v + getD (set r (slot p + 2) 0) (slot p + 1) 0 / 2 % 2 * 2 ≡ getD (set r (slot p + 2) 0) (slot p + 1) 0 + 0 * 2
+    → Stored n (front ++ r) (front ++ set (set r (slot p + 2) 0) (slot p + 1) v) (alter (waiting p) 0 (alter (kept (timer p)) 0 t))
+awake-stored {n} front r {t} {p} v fits im h e =
+    let w : getD r (slot p + 2) 0 < 65536 = rw (lent-timer front r fits im h) (im .spans (kept (timer p)) h) in
+    let a = lent-store front r fits im (kept (timer p)) 0 (slot p + 2) 0 1 65536 h (omega arith) (omega arith) refl refl (omega arith) in
+    stored-then a (lent-store front (set r (slot p + 2) 0) fits (a .image) (waiting p) 0 (slot p + 1) v 2 2 h (omega arith) (omega arith) refl refl e)
