@@ -27,6 +27,7 @@ use Rattle.area.specs.Loose.{Loose}
 use Rattle.area.proofs.Stores.{alter-here}
 use Rattle.area.proofs.Rings.{one-queue}
 use Rattle.moves.proofs.Loose.{loose-of, loose-relinked, loose-put, settled}
+use Rattle.moves.proofs.Shared.{put-own}
 
 module _ {n : Shape} {ws : List ℕ} {at-from at-to p waits : ℕ} (m : Moves n ws at-from at-to p waits) where
   pub move-waits : waits < 2
@@ -155,13 +156,6 @@ module _ {n : Shape} {ws : List ℕ} {at-from at-to p waits : ℕ} (m : Moves n 
           (subst (λ (pr : ℕ → ℕ). Relinked n ws₂ ws₃ (loose₂ .parts) without (m .to) (insert pr p (without (m .to)))) ranks-are J)))
 
 -- ---- with the priority that it has
-
-put-own : (f : Field) (s : Fields) → put f (s f) s ≡ s
-put-own f s = fun-ext (λ g. go g (put-case f g))
-  where
-    go : (g : Field) → PutCase f g → put f (s f) s g ≡ s g
-    go g (holds e z) = rw (z, ← e)
-    go g (fails e z) = rw z
 
 module _ {n : Shape} {ws : List ℕ} {at-from at-to p waits : ℕ} (m : Moves n ws at-from at-to p waits) (v : ℕ) (own : v ≡ m .state .fields (priority p)) where
   pub own-rank : v < 8

@@ -2,7 +2,7 @@
 use Prim.Native.Nat.{ℕ, _-_, _/_, _%_, _≤_}
 use native.Mathlib.Omega.{arith}
 use borrow.Rule.Slice.PartMut.{midOf}
-use mathlib.Core.Path.{_≡_, refl, sym, ap, _∙_}
+use mathlib.Core.Path.{_≡_, refl, sym, ap, _∙_, subst}
 use mathlib.Core.Bool.{true}
 use mathlib.Core.Logic.{_≢_}
 use mathlib.Core.List.{List, [], _∷_}
@@ -10,7 +10,7 @@ use lib.ListN.{length, getD}
 use Rattle.model.specs.declared.Shape.{Shape}
 use Rattle.model.specs.Queue.{Queue, inside, exists, first}
 use Rattle.model.specs.Queue.Queue.{ready}
-use Rattle.model.specs.Field.{put}
+use Rattle.model.specs.Field.{Fields, put}
 use Rattle.model.specs.Field.Field.{running, failed}
 use Rattle.model.specs.Machine.{State, model, retry}
 use Rattle.model.proofs.Tests.{EqCase, holds, fails, eqb-case, eqb-yes, inside-bounds}
@@ -23,6 +23,7 @@ use Rattle.area.specs.Holds.{Holds, Becomes, with, dispatched}
 use Rattle.area.proofs.Stores.{load-at}
 use Rattle.area.proofs.Rings.{member-inside}
 use Rattle.area.proofs.Records.{part-lent, queue-ring}
+use Rattle.moves.proofs.Shared.{put-own}
 
 -- ---- a read
 
@@ -66,3 +67,9 @@ module _ {n : Shape} {ws : List ℕ} {s : State model} (H : Holds n ws s) where
       go : (xs : List ℕ) → s .queues ready ≡ xs → (r ≡ first (s .queues ready)) × (f ≡ retry (s .queues ready) (s .fields)) × Becomes n ws new (dispatched s)
       go [] k = absurd (z (e ∙ ap first k))
       go (x ∷ xs) k = let d : r ≡ x = e ∙ ap first k in (e, rw (k, ← d) g, rw (k, ← d) b)
+
+  -- where its failed bit is not set, there is nothing to clear
+  pub dispatch-kept : {r f : ℕ} {new : List ℕ} → r ≡ first (s .queues ready) → r ≢ 0 → f ≡ put running r (s .fields) (failed r) → f ≡ 0 → Becomes n ws new (with running r s) → (r ≡ first (s .queues ready)) × (f ≡ retry (s .queues ready) (s .fields)) × Becomes n ws new (dispatched s)
+  dispatch-kept {r} {f} {new} e z g k b =
+      let t : Fields = put running r (s .fields) in
+      dispatch-first e z g (subst (λ (u : Fields). Becomes n ws new (record { fields = u; queues = s .queues })) (sym (ap (λ (v : ℕ). put (failed r) v t) (sym k ∙ g) ∙ put-own (failed r) t)) b)

@@ -136,7 +136,9 @@ fn dispatch(area: &mut [u16], shape: Shape) -> Dispatched
         };
     }
     let failed = area::get(area, places::failed(shape, first));
-    area::put(area, places::failed(shape, first), 0);
+    if failed != 0 {
+        area::put(area, places::failed(shape, first), 0);
+    }
     Dispatched {
         running: first,
         retry: failed,

@@ -1,11 +1,11 @@
--- `moves::dispatch` meets its contract: the first of ready runs, and is no longer failed. Assumes nothing.
+-- `moves::dispatch` meets its contract: the first of ready runs, and is no longer failed; where it was not, there is nothing to clear. Assumes nothing.
 use native.Mathlib.Omega.{arith}
 use mathlib.Core.Path.{refl}
 use Rattle.model.specs.Queue.Queue.{ready}
 use Rattle.model.specs.Field.Field.{running, failed}
 use Rattle.area.proofs.Puts.{becomes-then}
 use Rattle.area.proofs.Whole.{counts-in}
-use Rattle.moves.proofs.Queues.{first-process, first-small, dispatch-none, dispatch-first}
+use Rattle.moves.proofs.Queues.{first-process, first-small, dispatch-none, dispatch-first, dispatch-kept}
 use Rattle.moves.proofs.Shared.{taking}
 use borrow.Author.Needs.{needs}
 use Rattle.moves.proofs.dispatch.Statement.{statement}
@@ -50,28 +50,39 @@ get-requires c κs =
 
 failed-requires-2 : tie.Need-failed-requires-2
 failed-requires-2 c κs =
-    let pre = c .before .before .before .before .before .before .before .before .before .before .before .before .before .before .pre in
-    first-process (pre .1) ready (c .before .before .before .before .before .before .before .before .before .before .first-in .ensures (pre .0) ready (pre .1) refl (c .before .before .before .before .before .before .before .before .before .before .before .before .ready-at .ensures (c .before .before .before .before .before .before .before .before .before .before .before .before .before .before .args .shape))) (c .before .before .before .before .if1 .left)
+    let pre = c .before .before .before .before .before .before .before .before .before .before .before .before .before .before .before .pre in
+    first-process (pre .1) ready (c .before .before .before .before .before .before .before .before .before .before .before .first-in .ensures (pre .0) ready (pre .1) refl (c .before .before .before .before .before .before .before .before .before .before .before .before .before .ready-at .ensures (c .before .before .before .before .before .before .before .before .before .before .before .before .before .before .before .args .shape))) (c .before .before .before .before .before .if1 .left)
 
 put-requires-2 : tie.Need-put-requires-2
 put-requires-2 c κs =
-    let n = c .before .before .before .before .before .before .before .before .before .before .before .before .before .before .before .args .shape in
-    let pre = c .before .before .before .before .before .before .before .before .before .before .before .before .before .before .before .pre in
+    let n = c .before .before .before .before .before .before .before .before .before .before .before .before .before .before .before .before .args .shape in
+    let pre = c .before .before .before .before .before .before .before .before .before .before .before .before .before .before .before .before .pre in
     let L = c .failed2 .ensures in
-    let f = c .before .before .before .before .before .before .before .before .before .before .before .first-in .ensures _ ready (pre .1) refl (c .before .before .before .before .before .before .before .before .before .before .before .before .before .ready-at .ensures n) in
-    (n, failed (c .before .before .before .before .before .before .before .before .before .before .before .first-in .result), (_, c .before .before .before .before .before .before .before .before .put .ensures n _ running (pre .1) (taking running (c .before .before .before .before .before .before .before .before .before .running .ensures n) refl (omega (arith, first-small (pre .1) ready f, counts-in n (pre .1 .placed .counts) .some))) .holds), taking (failed (c .before .before .before .before .before .before .before .before .before .before .before .first-in .result)) L refl (rw (L .0) (omega arith)))
+    let f = c .before .before .before .before .before .before .before .before .before .before .before .before .first-in .ensures _ ready (pre .1) refl (c .before .before .before .before .before .before .before .before .before .before .before .before .before .before .ready-at .ensures n) in
+    (n, failed (c .before .before .before .before .before .before .before .before .before .before .before .before .first-in .result), (_, c .before .before .before .before .before .before .before .before .before .put .ensures n _ running (pre .1) (taking running (c .before .before .before .before .before .before .before .before .before .before .running .ensures n) refl (omega (arith, first-small (pre .1) ready f, counts-in n (pre .1 .placed .counts) .some))) .holds), taking (failed (c .before .before .before .before .before .before .before .before .before .before .before .before .first-in .result)) L refl (rw (L .0) (omega arith)))
 
 same-length-2 : tie.Need-same-length-2
 same-length-2 c = search needs
 
 returns-2 : tie.Need-returns-2
 returns-2 c s H =
-    let n = c .before .before .before .before .before .before .before .before .before .before .before .before .before .before .before .before .before .before .args .shape in
-    let p = c .before .before .before .before .before .before .before .before .before .before .before .before .before .before .first-in .result in
-    let f = c .before .before .before .before .before .before .before .before .before .before .before .before .before .before .first-in .ensures s ready H refl (c .before .before .before .before .before .before .before .before .before .before .before .before .before .before .before .before .ready-at .ensures n) in
-    let b = c .before .before .before .before .before .before .before .before .before .before .before .put .ensures n s running H (taking running (c .before .before .before .before .before .before .before .before .before .before .before .before .running .ensures n) refl (omega (arith, first-small H ready f, counts-in n (H .placed .counts) .some))) in
+    let n = c .before .before .before .before .before .before .before .before .before .before .before .before .before .before .before .before .before .before .before .args .shape in
+    let p = c .before .before .before .before .before .before .before .before .before .before .before .before .before .before .before .first-in .result in
+    let f = c .before .before .before .before .before .before .before .before .before .before .before .before .before .before .before .first-in .ensures s ready H refl (c .before .before .before .before .before .before .before .before .before .before .before .before .before .before .before .before .before .ready-at .ensures n) in
+    let b = c .before .before .before .before .before .before .before .before .before .before .before .before .put .ensures n s running H (taking running (c .before .before .before .before .before .before .before .before .before .before .before .before .before .running .ensures n) refl (omega (arith, first-small H ready f, counts-in n (H .placed .counts) .some))) in
     let L = c .before .before .before .failed2 .ensures in
-    dispatch-first H f (c .before .before .before .before .before .before .before .before .if1 .left) (c .before .before .before .before .before .get .ensures n _ (failed p) (b .holds) (c .before .before .before .before .before .before .failed .ensures)) (becomes-then b (c .before .before .put2 .ensures n _ (failed p) (b .holds) (taking (failed p) L refl (rw (L .0) (omega arith)))))
+    dispatch-first H f (c .before .before .before .before .before .before .before .before .before .if1 .left) (c .before .before .before .before .before .before .get .ensures n _ (failed p) (b .holds) (c .before .before .before .before .before .before .before .failed .ensures)) (becomes-then b (c .before .before .put2 .ensures n _ (failed p) (b .holds) (taking (failed p) L refl (rw (L .0) (omega arith)))))
+
+same-length-3 : tie.Need-same-length-3
+same-length-3 c = search needs
+
+returns-3 : tie.Need-returns-3
+returns-3 c s H =
+    let n = c .before .before .before .before .before .before .before .before .before .before .before .before .before .before .args .shape in
+    let p = c .before .before .before .before .before .before .before .before .before .before .first-in .result in
+    let f = c .before .before .before .before .before .before .before .before .before .before .first-in .ensures s ready H refl (c .before .before .before .before .before .before .before .before .before .before .before .before .ready-at .ensures n) in
+    let b = c .before .before .before .before .before .before .before .put .ensures n s running H (taking running (c .before .before .before .before .before .before .before .before .running .ensures n) refl (omega (arith, first-small H ready f, counts-in n (H .placed .counts) .some))) in
+    dispatch-kept H f (c .before .before .before .before .if1 .left) (c .before .get .ensures n _ (failed p) (b .holds) (c .before .before .failed .ensures)) (c .if2 .left) b
 
 pub dispatch-spec : {M : Type 1} → statement M
 dispatch-spec =
@@ -88,4 +99,6 @@ dispatch-spec =
     failed-requires-2
     put-requires-2
     same-length-2
-    returns-2)
+    returns-2
+    same-length-3
+    returns-3)
