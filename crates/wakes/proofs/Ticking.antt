@@ -1,14 +1,16 @@
 -- Tick: those whose timer rings leave their conditions, and then wake in process order. Who rings waits, so each condition is without them when
 -- it is swept, no other queue has one of them, and they are those of the rule. Assumes nothing.
-use Prim.Native.Nat.{ℕ, zero, suc, _+_, _%_, _≤_}
+use Prim.Native.Nat.{ℕ, zero, suc, _+_, _-_, _%_, _≤_}
 use native.Mathlib.Omega.{arith}
+use borrow.Rule.Slice.PartMut.{midOf}
 use native.Mathlib.Numerals.{add-one}
 use mathlib.Core.Path.{_≡_, refl, sym, ap, _∙_, subst}
 use mathlib.Core.Bool.{Bool, true, false, not, _&&_, true≢false}
 use mathlib.Core.Logic.{_≢_}
 use mathlib.Core.List.{List, [], _∷_, _++_}
 use lib.Dec.{eqb}
-use lib.ListN.{length}
+use lib.ListN.{length, take, take-append-drop}
+use lib.Seq.{length-take-le}
 use Rattle.model.specs.declared.Shape.{Shape}
 use Rattle.model.specs.declared.Answer.{Answer}
 use Rattle.model.specs.declared.Call.the-variants.{Tick}
@@ -23,11 +25,14 @@ use Rattle.model.proofs.Tests.{holds, fails, SameCase, same-case, EqCase, eqb-c
 use Rattle.model.proofs.Lists.{filter-member, member-filter, upTo-member, member-upTo}
 use Rattle.model.proofs.Loops.{due-moved}
 use Rattle.model.proofs.Many.{without, filter-all, filter-none, filter-agree, filter-once, upTo-once}
+use Rattle.area.specs.Layout.{recordsAt, Image}
+use Rattle.area.specs.State.{laid}
 use Rattle.area.specs.Holds.{Holds, Becomes, with, Gives}
 use Rattle.area.specs.Loose.{Loose, swept, staying, Crowd, Woken, ringing}
 use Rattle.area.specs.Calls.{Does}
 use Rattle.area.proofs.Puts.{becomes-none}
 use Rattle.area.proofs.Rings.{member-inside, queue-none}
+use Rattle.moves.proofs.Relinks.{lent}
 use Rattle.moves.proofs.Loose.{waits-in}
 use Rattle.moves.proofs.Outcomes.{accepts}
 use Rattle.wakes.proofs.Waking.{woken, woken-becomes}
@@ -186,6 +191,14 @@ none-at-zero n f {now} z = filter-none (λ p. some (f (timer p)) && eqb (f (time
     at-zero t = rw z (go (eqb t 0))
 
 -- ---- whether somebody rings
+
+-- the area is its front and the records, as they are lent
+module _ {n : Shape} {ws : List ℕ} {s : State model} (H : Holds n ws s) {a : ℕ} (at-records : a ≡ recordsAt n) where
+  pub front-fits : length (take (recordsAt n) ws) ≡ recordsAt n
+  front-fits = length-take-le (recordsAt n) ws (omega (arith, H .image .long))
+
+  pub lent-image : Image n (take (recordsAt n) ws ++ midOf a (length ws - a) ws) (laid n s)
+  lent-image = rw (lent n ws at-records, take-append-drop (recordsAt n) ws) (H .image)
 
 -- of 1 to k nobody does, and not the next
 pub none-next : (f : Fields) (time k x : ℕ) → x ≡ f (timer (k + 1)) → x ≢ time → ringing f time k ≡ [] → ringing f time (k + 1) ≡ []

@@ -21,11 +21,12 @@ fn nobody_due(area: &[u16], shape: Shape, time: u16) -> bool
     requires { ⌜ Held shape (now area) ⌝ }
     ensures { λ r. ⌜ ((s : State model) → Holds shape (now (area .entry)) s → r ≡ true → ringing (s .fields) time (shape .processes) ≡ []) ⌝ }
 {
+    let at = area::records_at(shape);
     let processes = shape.processes;
     let mut p: u16 = 0;
     while p < processes {
         p += 1;
-        if area::get(area, places::timer(shape, p)) == time {
+        if area::timer_in(&area[at..], p) == time {
             return false;
         }
     }

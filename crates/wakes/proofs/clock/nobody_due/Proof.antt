@@ -1,35 +1,56 @@
--- `wakes::clock::nobody_due` meets its contract. The loop's invariant: of the processes passed nobody's timer is at this time. The measure is the processes ahead. Assumes nothing.
+-- `wakes::clock::nobody_due` meets its contract. The loop's invariant: of the processes passed nobody's timer is at this time, which is read in the records as they are lent. The measure is the processes ahead. Assumes nothing.
 use Prim.Native.Nat.{ℕ, _+_, _-_, _≤_}
 use native.Mathlib.Omega.{arith}
 use mathlib.Core.Path.{_≡_, refl, subst}
 use mathlib.Core.Bool.{false≢true}
 use mathlib.Core.List.{[]}
-use Rattle.model.specs.Field.Field.{timer}
+use lib.ListN.{take}
+use Rattle.model.specs.declared.Shape.{Shape}
 use Rattle.model.specs.Machine.{State, model}
 use Rattle.model.proofs.Tests.{bounds-inside}
+use Rattle.area.specs.Layout.{recordsAt}
+use Rattle.area.specs.State.{laid}
 use Rattle.area.specs.Holds.{Holds}
 use Rattle.area.specs.Loose.{ringing}
-use Rattle.wakes.proofs.Ticking.{none-next}
+use Rattle.wakes.proofs.Ticking.{front-fits, lent-image, none-next}
+use borrow.Author.Needs.{needs}
 use Rattle.wakes.proofs.clock.nobody_due.Statement.{statement}
 use Rattle.wakes.proofs.clock.nobody_due.Tie as tie
 
 abbrev Inv-loop : tie.InvT-loop
-Inv-loop area shape time processes p₀ p = (p ≤ shape .processes) × ((s : State model) → Holds shape area s → ringing (s .fields) time p ≡ [])
+Inv-loop area time at processes p₀ p = (p ≤ processes) × ((n : Shape) (s : State model) → at ≡ recordsAt n → processes ≡ n .processes → Holds n area s → ringing (s .fields) time p ≡ [])
 
 abbrev μ-loop : tie.MeasureT-loop
-μ-loop area shape time processes p₀ p = shape .processes - p
+μ-loop area time at processes p₀ p = processes - p
+
+records-at-requires : tie.Need-records-at-requires Inv-loop μ-loop
+records-at-requires c κs = search needs
 
 loop-holds : tie.Need-loop-holds Inv-loop μ-loop
-loop-holds c = (omega arith, λ s H. refl)
+loop-holds c = (omega arith, λ n s a k H. refl)
 
 add-p : tie.Need-add-p Inv-loop μ-loop
 add-p c = omega arith
 
-timer-requires : tie.Need-timer-requires Inv-loop μ-loop
-timer-requires c κs = bounds-inside (c .before .before .before .args .shape .processes) (c .before .loop .p + 1) (omega arith) (omega arith)
+mul-timer-in : tie.Need-mul-timer-in Inv-loop μ-loop
+mul-timer-in c = search needs
 
-get-requires : tie.Need-get-requires Inv-loop μ-loop
-get-requires c κs = (c .before .before .before .before .args .shape, timer (c .before .before .loop .p + 1), c .before .before .before .before .pre, c .timer .ensures)
+sub-timer-in : tie.Need-sub-timer-in Inv-loop μ-loop
+sub-timer-in c = search needs
+
+part-timer-in-start : tie.Need-part-timer-in-start Inv-loop μ-loop
+part-timer-in-start c = search needs
+
+part-timer-in-end : tie.Need-part-timer-in-end Inv-loop μ-loop
+part-timer-in-end c = search needs
+
+timer-in-requires : tie.Need-timer-in-requires Inv-loop μ-loop
+timer-in-requires c κs =
+    let s = c .before .before .before .before .before in
+    let n = s .args .shape in
+    let H = s .pre .1 in
+    let at-records = c .before .before .before .records-at .ensures in
+    (n, take (recordsAt n) (s .args .area .now), laid n (s .pre .0), front-fits H at-records, lent-image H at-records, bounds-inside (n .processes) (c .before .before .loop .p + 1) (omega arith) (omega arith))
 
 returns : tie.Need-returns Inv-loop μ-loop
 returns c = λ s H e. absurd (false≢true e)
@@ -40,14 +61,14 @@ loop-less c = omega arith
 loop-again : tie.Need-loop-again Inv-loop μ-loop
 loop-again c =
     let l = c .before .before .before .before .loop in
-    (omega arith, λ s H. none-next (s .fields) (c .before .before .before .before .before .before .args .time) (l .p) (c .before .get .result) (c .before .get .ensures (c .before .before .before .before .before .before .args .shape) s (timer (l .p + 1)) H (c .before .before .timer .ensures)) (c .if1 .left) (l .inv .1 s H))
+    (omega arith, λ n s a k H. none-next (s .fields) _ (l .p) (c .before .timer-in .result) (c .before .timer-in .ensures n (take (recordsAt n) _) (laid n s) (front-fits H a) (lent-image H a) (bounds-inside (n .processes) (l .p + 1) (omega arith) (omega (arith, k, c .before .before .before .loop-test .taken)))) (c .if1 .left) (l .inv .1 n s a k H))
 
 returns-2 : tie.Need-returns-2 Inv-loop μ-loop
 returns-2 c = λ s H e.
     let l = c .before .loop in
-    let n = c .before .before .before .args .shape in
+    let n = c .before .before .before .before .args .shape in
     let all : l .p ≡ n .processes = omega (arith, l .inv .0, c .loop-test .left) in
-    subst (λ (k : ℕ). ringing (s .fields) (c .before .before .before .args .time) k ≡ []) all (l .inv .1 s H)
+    subst (λ (k : ℕ). ringing (s .fields) (c .before .before .before .before .args .time) k ≡ []) all (l .inv .1 n s (c .before .before .records-at .ensures) refl H)
 
 pub nobody-due-spec : {M : Type 1} → statement M
 nobody-due-spec =
@@ -55,10 +76,14 @@ nobody-due-spec =
     (tie.spec
     Inv-loop
     μ-loop
+    records-at-requires
     loop-holds
     add-p
-    timer-requires
-    get-requires
+    mul-timer-in
+    sub-timer-in
+    part-timer-in-start
+    part-timer-in-end
+    timer-in-requires
     returns
     loop-less
     loop-again
