@@ -15,7 +15,13 @@
  * word of the area beyond its size (KERNEL_AREA_WORDS) and writes none. Calls on one area must not run at the same time: mask
  * interrupts around a call, or make every call from one place.
  *
- * A call takes less than 640 bytes of stack (536 measured at most, on x86-64). */
+ * Time: a call first checks the area, every process and every queue once. What it does beyond that is at worst linear, whatever the
+ * priorities, the order and the number of those who wake. In steps from a process to the next of its queue, with P processes and C
+ * conditions: P for enter, exit, wait, notify, naked, set_priority and broadcast; 2 P for requeue, which looks for the process first;
+ * P + C for a tick at which somebody is due, with two passes over the P timers, and one pass over these where nobody is; P for list,
+ * 2 P into a buffer of fewer than P words. README.md has measured times.
+ *
+ * A call takes less than 448 bytes of stack (352 measured at most, on x86-64). */
 #ifndef KERNEL_H
 #define KERNEL_H
 
