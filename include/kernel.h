@@ -21,7 +21,7 @@
  * P + C for a tick at which somebody is due, with two passes over the P timers, and one pass over these where nobody is; P for list,
  * 2 P into a buffer of fewer than P words. README.md has measured times.
  *
- * A call takes less than 448 bytes of stack (352 measured at most, on x86-64). */
+ * A call takes less than 416 bytes of stack (320 measured at most, on x86-64). */
 #ifndef KERNEL_H
 #define KERNEL_H
 

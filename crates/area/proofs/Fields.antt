@@ -9,7 +9,7 @@ use mathlib.Core.List.{List}
 use lib.Arith.{mod-mul}
 use lib.Pow.{pow-pos}
 use lib.Bits.{bitOr, or-shifted}
-use lib.ListN.{length}
+use lib.ListN.{length, getD, set}
 use Rattle.model.specs.declared.Shape.{Shape}
 use Rattle.model.specs.Queue.{inside, bit}
 use Rattle.model.specs.Field.{Field, some}
@@ -21,10 +21,10 @@ use Rattle.model.proofs.Tests.{EqCase, holds, fails, eqb-case, eqb-yes, eqb-no}
 use Rattle.area.specs.declared.places.Place.{Place}
 use Rattle.area.specs.Layout.{Part, Parts, alter, Slot, home, span, at, has, Image, Stored}
 use Rattle.area.specs.Layout.Part.{kept, tail, next, locked, waiting}
-use Rattle.area.specs.Layout.Slot.{Tail}
+use Rattle.area.specs.Layout.Slot.{Running, Tail}
 use Rattle.area.specs.State.{laid}
 use Rattle.area.specs.Holds.{Holds, Becomes, Takes, plain, with}
-use Rattle.area.proofs.Stores.{image-ext, within}
+use Rattle.area.proofs.Stores.{image-ext, within, store}
 use Rattle.area.proofs.Puts.{becomes-with, becomes-holder}
 use Rattle.area.proofs.Whole.{counts-in}
 
@@ -100,6 +100,17 @@ module _ {n : Shape} {ws : List ℕ} {s : State model} (H : Holds n ws s) where
 
     pub takes : {new : List ℕ} → Stored n ws new (alter (kept f) x (laid n s)) → Becomes n ws new (with f x s)
     takes st = becomes-with H f x (T .fits) (λ q e. true≢false (sym (T .free) ∙ ap plain e)) (λ l e. true≢false (sym (T .free) ∙ ap plain e)) st
+
+  -- who runs, in a word that has nothing else
+  module _ (p : ℕ) (fits : p ≤ n .processes) where
+    pub runner-small : p < span (kept running)
+    runner-small = omega (arith, counts-in n (H .image .counts) .processes)
+
+    pub takes-runner : Becomes n ws (set ws 4 (p * 8)) (with running p s)
+    takes-runner =
+        let w = H .image .words Running refl in
+        becomes-with H running p (omega arith) (λ q e. true≢false (ap plain e)) (λ l e. true≢false (ap plain e))
+        (store n ws (laid n s) (H .image) (kept running) p 4 refl runner-small refl 8 1024 (p * 8) (getD ws 4 0) refl refl refl (omega (arith, H .image .spans (kept running) refl)))
 
   -- a lock's holder, with its locked bit
   module _ (l p : ℕ) (ok : inside (n .locks) l ≡ true) (fits : p ≤ n .processes) where

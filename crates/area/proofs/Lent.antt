@@ -8,13 +8,13 @@ use lib.ListN.{length, getD, set, length-append}
 use lib.Seq.{getD-append-add}
 use Rattle.model.specs.declared.Shape.{Shape}
 use Rattle.model.specs.Queue.{inside}
-use Rattle.model.specs.Field.Field.{timer}
+use Rattle.model.specs.Field.Field.{priority, timer}
 use Rattle.model.proofs.Tests.{inside-bounds}
 use Rattle.ring.specs.Link.{slot}
 use Rattle.area.specs.Layout.{Part, Parts, alter, unit, span, home, has, at, recordsAt, Image, Stored}
 use Rattle.area.specs.Layout.Part.{kept, waiting}
-use Rattle.area.specs.Layout.Slot.{Timer}
-use Rattle.area.proofs.Stores.{store, stored-then}
+use Rattle.area.specs.Layout.Slot.{Flags, Timer}
+use Rattle.area.proofs.Stores.{store}
 
 set-behind : (xs ys : List ℕ) (j v : ℕ) → set (xs ++ ys) (length xs + j) v ≡ xs ++ set ys j v
 set-behind [] ys j v = ap (λ i. set ys i v) (let e : 0 + j ≡ j = omega arith in e)
@@ -38,11 +38,17 @@ module _ {n : Shape} (front r : List ℕ) {t : Parts} (fits : length front ≡ r
       rw (← set-behind front r j v, fits)
       (store n (front ++ r) t im f x (recordsAt n + j) ok small (sym here) u k v (getD r j 0) eu ek (sym (lent-word j (recordsAt n + j) refl)) e)
 
--- the timer is 0, and then the waiting bit clear
-pub awake-stored : {n : Shape} (front r : List ℕ) {t : Parts} {p : ℕ} (v : ℕ) → length front ≡ recordsAt n → Image n (front ++ r) t → inside (n .processes) p ≡ true
-    → v + getD (set r (slot p + 2) 0) (slot p + 1) 0 / 2 % 2 * 2 ≡ getD (set r (slot p + 2) 0) (slot p + 1) 0 + 0 * 2
-    → Stored n (front ++ r) (front ++ set (set r (slot p + 2) 0) (slot p + 1) v) (alter (waiting p) 0 (alter (kept (timer p)) 0 t))
-awake-stored {n} front r {t} {p} v fits im h e =
-    let w : getD r (slot p + 2) 0 < 65536 = rw (lent-timer front r fits im h) (im .spans (kept (timer p)) h) in
-    let a = lent-store front r fits im (kept (timer p)) 0 (slot p + 2) 0 1 65536 h (omega arith) (omega arith) refl refl (omega arith) in
-    stored-then a (lent-store front (set r (slot p + 2) 0) fits (a .image) (waiting p) 0 (slot p + 1) v 2 2 h (omega arith) (omega arith) refl refl e)
+  module _ {p : ℕ} (h : inside (n .processes) p ≡ true) where
+    pub lent-calm : Stored n (front ++ r) (front ++ set r (slot p + 2) 0) (alter (kept (timer p)) 0 t)
+    lent-calm =
+        let w : getD r (slot p + 2) 0 < 65536 = rw (lent-timer h) (im .spans (kept (timer p)) h) in
+        lent-store (kept (timer p)) 0 (slot p + 2) 0 1 65536 h (omega arith) (omega arith) refl refl (omega arith)
+
+    -- the flags are the waiting bit alone
+    pub lent-waiting : (x : ℕ) → x < 2 → Stored n (front ++ r) (front ++ set r (slot p + 1) (x * 2)) (alter (waiting p) x t)
+    lent-waiting x small =
+        let w : getD r (slot p + 1) 0 ≡ t (waiting p) * 2 = sym (lent-word (slot p + 1) (at n (Flags p)) (omega arith)) ∙ im .words (Flags p) h in
+        lent-store (waiting p) x (slot p + 1) (x * 2) 2 2 h (omega arith) small refl refl (omega (arith, im .spans (waiting p) h))
+
+    pub lent-rank : (x v : ℕ) → x < 8 → v + getD r (slot p) 0 / 8192 % 8 * 8192 ≡ getD r (slot p) 0 + x * 8192 → Stored n (front ++ r) (front ++ set r (slot p) v) (alter (kept (priority p)) x t)
+    lent-rank x v small e = lent-store (kept (priority p)) x (slot p) v 8192 8 h (omega arith) small refl refl e

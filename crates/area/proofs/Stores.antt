@@ -3,7 +3,7 @@
 use Prim.Native.Nat.{ℕ, _+_, _*_, _/_, _%_, _^_, _≤_, _<_}
 use native.Mathlib.Decide.{ℕ-discrete}
 use native.Mathlib.Omega.{arith}
-use mathlib.Core.Path.{_≡_, refl, sym, ap, _∙_}
+use mathlib.Core.Path.{_≡_, refl, sym, ap, _∙_, fun-ext}
 use mathlib.Core.Bool.{true}
 use mathlib.Core.List.{List}
 use lib.Pow.{pow-pos}
@@ -34,6 +34,14 @@ alter-here f x t = rw (passes (decided-case (part≟ f f)) (λ h. h refl))
 
 pub alter-away : (f g : Part) (x : ℕ) (t : Parts) → (f ≡ g → ⊥) → alter f x t g ≡ t g
 alter-away f g x t h = rw (stops (decided-case (part≟ f g)) h)
+
+-- the value that it has changes nothing
+pub alter-own : (f : Part) (x : ℕ) (t : Parts) → t f ≡ x → alter f x t ≡ t
+alter-own f x t e = fun-ext (λ g. go g (part≟ f g))
+  where
+    go : (g : Part) → Dec (f ≡ g) → alter f x t g ≡ t g
+    go g (yes q) = rw (← q) (alter-here f x t ∙ sym e)
+    go g (no q) = alter-away f g x t q
 
 -- ---- a word goes by the parts that it is home to
 

@@ -14,7 +14,7 @@ ghost use Rattle.model.specs.declared.Shape.{Shape};
 ghost use Rattle.model.specs.Queue.{inside, bit};
 ghost use Rattle.model.specs.Queue.Queue.{ready, lock, condition};
 ghost use Rattle.model.specs.Field.{Field, some};
-ghost use Rattle.model.specs.Field.Field.{priority, timer, holder};
+ghost use Rattle.model.specs.Field.Field.{running, priority, timer, holder};
 ghost use Rattle.model.specs.Rules.{readyOrPark};
 ghost use Rattle.model.specs.Machine.{State, model};
 ghost use Rattle.area.specs.Layout.{Part, Parts, span, at, Lies, locksAt, conditionsAt, recordsAt, size, alter, Image, Stored};
@@ -176,15 +176,12 @@ pub fn set_holder(area: &mut [u16], shape: Shape, l: u16, p: u16)
     store(area, places::holder(shape, l), p);
 }
 
-// p's priority and waiting bit, which go with a move.
-pub fn set_rank(area: &mut [u16], shape: Shape, p: u16, v: u16, waits: u16)
-    requires { ⌜ ((t : Parts) × Image shape (now area) t) ⌝ }
-    requires { ⌜ inside (shape .processes) p ≡ true ⌝ }
-    requires { ⌜ (v < 8) × (waits < 2) ⌝ }
-    ensures { λ _. ⌜ ((t : Parts) → Image shape (now (area .entry)) t → Stored shape (now (area .entry)) (now (area .exit)) (alter (waiting p) waits (alter (kept (priority p)) v t))) ⌝ }
+// Who runs, p or nobody: the word has nothing else in it.
+pub fn set_running(area: &mut [u16], p: u16)
+    requires { ⌜ ((n : Shape) × Held n (now area) × (p ≤ n .processes)) ⌝ }
+    ensures { λ _. ⌜ ((n : Shape) (s : State model) → Holds n (now (area .entry)) s → p ≤ n .processes → Becomes n (now (area .entry)) (now (area .exit)) (with running p s)) ⌝ }
 {
-    store(area, places::priority(shape, p), v);
-    store(area, places::waiting(shape, p), waits);
+    area[layout::RUNNING] = p * ring::NUMBER;
 }
 
 // ---- the records, lent as a part behind what stands in front of them
@@ -198,13 +195,33 @@ pub fn timer_in(records: &[u16], p: u16) -> u16
     records[at]
 }
 
+// p's priority.
+pub fn set_rank(records: &mut [u16], p: u16, v: u16)
+    requires { ⌜ ((n : Shape) × (front : List ℕ) × (t : Parts) × (length front ≡ recordsAt n) × Image n (front ++ now records) t × (inside (n .processes) p ≡ true)) ⌝ }
+    requires { ⌜ v < 8 ⌝ }
+    ensures { λ _. ⌜ ((n : Shape) (front : List ℕ) (t : Parts) → length front ≡ recordsAt n → Image n (front ++ now (records .entry)) t → inside (n .processes) p ≡ true → Stored n (front ++ now (records .entry)) (front ++ now (records .exit)) (alter (kept (priority p)) v t)) ⌝ }
+{
+    let at = (p as usize - 1) * RECORD;
+    let link = records[at];
+    records[at] = with_part(link, ring::PRIORITY, ring::PRIORITIES as u32, v);
+}
+
+// p's waiting bit, which goes with a move; the flags have no other bit.
+pub fn set_waiting(records: &mut [u16], p: u16, waits: u16)
+    requires { ⌜ ((n : Shape) × (front : List ℕ) × (t : Parts) × (length front ≡ recordsAt n) × Image n (front ++ now records) t × (inside (n .processes) p ≡ true)) ⌝ }
+    requires { ⌜ waits < 2 ⌝ }
+    ensures { λ _. ⌜ ((n : Shape) (front : List ℕ) (t : Parts) → length front ≡ recordsAt n → Image n (front ++ now (records .entry)) t → inside (n .processes) p ≡ true → Stored n (front ++ now (records .entry)) (front ++ now (records .exit)) (alter (waiting p) waits t)) ⌝ }
+{
+    let at = (p as usize - 1) * RECORD + layout::FLAGS;
+    records[at] = waits * layout::WAITING;
+}
+
 // p's timer is 0 and its waiting bit clear, which goes with waking.
 pub fn set_awake(records: &mut [u16], p: u16)
     requires { ⌜ ((n : Shape) × (front : List ℕ) × (t : Parts) × (length front ≡ recordsAt n) × Image n (front ++ now records) t × (inside (n .processes) p ≡ true)) ⌝ }
     ensures { λ _. ⌜ ((n : Shape) (front : List ℕ) (t : Parts) → length front ≡ recordsAt n → Image n (front ++ now (records .entry)) t → inside (n .processes) p ≡ true → Stored n (front ++ now (records .entry)) (front ++ now (records .exit)) (alter (waiting p) 0 (alter (kept (timer p)) 0 t))) ⌝ }
 {
-    let at = (p as usize - 1) * RECORD;
-    records[at + layout::TIMER] = 0;
-    let flags = records[at + layout::FLAGS];
-    records[at + layout::FLAGS] = with_part(flags, layout::WAITING, layout::BIT, 0);
+    let at = (p as usize - 1) * RECORD + layout::TIMER;
+    records[at] = 0;
+    set_waiting(records, p, 0);
 }

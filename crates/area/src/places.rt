@@ -39,17 +39,6 @@ pub fn running() -> Place
     }
 }
 
-pub fn priority(shape: Shape, p: u16) -> Place
-    requires { ⌜ inside (shape .processes) p ≡ true ⌝ }
-    ensures { λ r. ⌜ Lies shape (kept (Field.priority p)) r ⌝ }
-{
-    Place {
-        at: record_at(shape, p),
-        unit: ring::PRIORITY,
-        span: ring::PRIORITIES as u32,
-    }
-}
-
 pub fn failed(shape: Shape, p: u16) -> Place
     requires { ⌜ inside (shape .processes) p ≡ true ⌝ }
     ensures { λ r. ⌜ Lies shape (kept (Field.failed p)) r ⌝ }
@@ -57,17 +46,6 @@ pub fn failed(shape: Shape, p: u16) -> Place
     Place {
         at: record_at(shape, p),
         unit: layout::FAILED,
-        span: layout::BIT,
-    }
-}
-
-pub fn waiting(shape: Shape, p: u16) -> Place
-    requires { ⌜ inside (shape .processes) p ≡ true ⌝ }
-    ensures { λ r. ⌜ Lies shape (Part.waiting p) r ⌝ }
-{
-    Place {
-        at: record_at(shape, p) + layout::FLAGS,
-        unit: layout::WAITING,
         span: layout::BIT,
     }
 }

@@ -1,6 +1,6 @@
 -- Many leave: a ring swept by the timers of its members, or emptied. Only the links and the tail of the ring at hand change, so the area stays
 -- one in the midst of a wake. Assumes nothing.
-use Prim.Native.Nat.{ℕ, _+_, _-_, _/_, _%_}
+use Prim.Native.Nat.{ℕ, _+_, _-_, _/_, _%_, _<_}
 use native.Mathlib.Omega.{arith}
 use borrow.Rule.Slice.PartMut.{midOf, putMid}
 use mathlib.Core.Path.{_≡_, refl, sym, ap, _∙_, subst, fun-ext}
@@ -48,12 +48,6 @@ module _ {n : Shape} {old ws : List ℕ} {f : Fields} {qs : Queue → List ℕ} 
   pub loose-ring : Ring (midOf a (length ws - a) ws) w (qs q)
   loose-ring = lent-ring q (L .rings) given here at-records reads
 
-  -- nobody is there to leave
-  pub loose-empty : (time : ℕ) → w ≡ 0 → Loose n old ws f (swept f time qs q)
-  loose-empty time z =
-      let none : qs q ≡ [] = ring-empty (qs q) loose-ring z in
-      subst (Loose n old ws f) (sym (ap (swap qs q) (ap (filter (λ x. not (eqb (f (timer x)) time))) none ∙ sym none) ∙ swap-own qs q)) L
-
   -- the word that the sweep goes by is the timer
   by-timer : (time x : ℕ) → inside (n .processes) x ≡ true → stays (midOf a (length ws - a) ws) 2 time x ≡ not (eqb (f (timer x)) time)
   by-timer time x h =
@@ -86,6 +80,13 @@ module _ {n : Shape} {old ws : List ℕ} {f : Fields} {qs : Queue → List ℕ} 
 
       there : (x : ℕ) → member x xs ≡ true → member x (qs q) ≡ true
       there x m = filter-member (λ x. not (eqb (f (timer x)) time)) x (qs q) m .0
+
+-- a word below 8 names nobody: its queue is empty, and a sweep of it changes nothing
+pub loose-empty : {n : Shape} {old ws : List ℕ} {f : Fields} {qs : Queue → List ℕ} (L : Loose n old ws f qs) (q : Queue) {i : ℕ} → exists n q ≡ true → i ≡ at n (Tail q) → (time : ℕ) → getD ws i 0 < 8
+    → Loose n old ws f (swept f time qs q)
+loose-empty {n} {old} {ws} {f} {qs} L q given here time low =
+    let none : qs q ≡ [] = ring-empty (qs q) (loose-ring L q given here _ _ refl refl) (omega arith) in
+    subst (Loose n old ws f) (sym (ap (swap qs q) (ap (filter (λ x. not (eqb (f (timer x)) time))) none ∙ sym none) ∙ swap-own qs q)) L
 
 -- ---- all leave
 

@@ -52,14 +52,13 @@ module _ (P k w v : ℕ) where
             both : eqb k 2 && eqb w 1 ≡ false
             both = elim (ℕ-discrete k 2) [ yes e ↦ rw (ne-eqb w 1 (n e), and-false) | no e ↦ rw (ne-eqb k 2 e) ]
 
-  -- an empty queue, whose other bits are 0 too
-  pub head-empty : w ≡ 0 → eqb v 0 ≡ heading P k w v
+  -- a queue whose word is 0: it is empty, and nobody holds the lock
+  pub head-empty : w ≡ 0 → v ≡ 0 → true ≡ heading P k w v
+  head-empty z d = sym (eq-eqb (w % 8) 0 (omega arith)) ∙ head-plain (omega arith) (omega arith) (omega arith) d (λ e h. omega arith)
+
+  pub head-empty-held : w ≡ 0 → (v ≡ 0 → ⊥) → false ≡ heading P k w v
   unfolding heading
-  head-empty z = go (ℕ-discrete v 0)
-    where
-      go : Dec (v ≡ 0) → eqb v 0 ≡ heading P k w v
-      go (yes d) = eq-eqb v 0 d ∙ (sym (eq-eqb (w % 8) 0 (omega arith)) ∙ head-plain (omega arith) (omega arith) (omega arith) d (λ e h. omega arith))
-      go (no n) = rw (ne-eqb v 0 n, ne-eqb (w % 8) 1 (omega arith), and-false, and-false, and-false)
+  head-empty-held z n = rw (ne-eqb v 0 n, ne-eqb (w % 8) 1 (omega arith), and-false, and-false, and-false)
 
 -- ---- where a queue's words stand
 

@@ -73,10 +73,6 @@ pub fn runs(area: &[u16], records: &[u16]) -> bool
 pub fn in_order(processes: u16, kind: u16, w: u16, v: u16) -> bool
     ensures { λ r. ⌜ r ≡ heading processes kind w v ⌝ }
 {
-    // most queues are empty
-    if w == 0 {
-        return v == 0;
-    }
     if processes < w / ring::NUMBER {
         return false;
     }

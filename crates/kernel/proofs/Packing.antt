@@ -12,7 +12,7 @@ use Rattle.area.specs.Sound.{Sound}
 use Rattle.start.specs.Start.{Starts}
 use Rattle.queues.specs.declared.listing.Listed.{Listed}
 use Rattle.monitor.specs.Calls.{Performs, ListsOn}
-use Rattle.monitor.specs.Wire.{packed, listFields, numberOf}
+use Rattle.monitor.specs.Wire.{packed, Carries, listFields, numberOf}
 use Rattle.monitor.proofs.Wire.{Fit, carries}
 use Rattle.monitor.proofs.Promises.{performs-fits, starts-fits, lists-fits}
 use Rattle.kernel.specs.Exports.{Conveys, Crosses, Begins, Writes, Judges}
@@ -21,8 +21,12 @@ use Rattle.kernel.specs.Exports.{Conveys, Crosses, Begins, Writes, Judge
 conveys : {A : Type 0} {w r : ℕ} (fields : A → List ℕ) {promised : A → Type 0} (a : A) → promised a → r ≡ packed w (fields a) → Fit w (fields a) → Conveys w fields promised r
 conveys {w = w} fields a p e h = record { answer = a; keeps = p; carries = carries w (fields a) e h }
 
+-- a call's answer comes back out of its number
+pub carried : {c : Call} {old new : List ℕ} {a : Answer} {r : ℕ} → Performs c old new a → r ≡ numberOf a → Carries 10 r (fieldsOf a)
+carried {a = a} P e = carries 10 (fieldsOf a) e (performs-fits P)
+
 pub crosses : {c : Call} {old new : List ℕ} {a : Answer} {r : ℕ} → Performs c old new a → r ≡ numberOf a → Crosses c old new r
-crosses {a = a} P e = conveys fieldsOf a P e (performs-fits P)
+crosses {a = a} P e = record { answer = a; keeps = P; carries = carried P e }
 
 pub begins : {n : Shape} {bytes old new : List ℕ} {a : Answer} {r : ℕ} → Starts n bytes old new a → r ≡ numberOf a → Begins n bytes old new r
 begins {a = a} S e = conveys fieldsOf a S e (starts-fits S)

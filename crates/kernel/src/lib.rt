@@ -1,10 +1,16 @@
 // The C boundary: each call on an area of any words and any numbers, its answer packed in one number. Thin over monitor. Assumes nothing.
-use model::Call;
+use model::Answer;
 use model::Priority;
 use model::Process;
 use model::Shape;
 use model::Ticks;
+ghost use Prim.Native.Nat.{ℕ};
+ghost use mathlib.Core.List.{List};
+ghost use Rattle.model.specs.declared.Call.{Call};
 ghost use Rattle.model.specs.declared.Call.the-variants.{Enter, Exit, Wait, Notify, Broadcast, Naked, Requeue, SetPriority, Tick};
+ghost use Rattle.model.specs.Machine.{fieldsOf};
+ghost use Rattle.monitor.specs.Calls.{Performs};
+ghost use Rattle.monitor.specs.Wire.{Carries};
 ghost use Rattle.kernel.specs.Exports.{Crosses, Begins, Judges, Writes};
 
 // ---- Start and Sound
@@ -41,75 +47,54 @@ pub extern "C" fn kernel_sound(area: &[u16]) -> u64
 
 // ---- the nine calls
 
-// A call, its answer as one number.
-fn cross(area: &mut [u16], call: Call) -> u64
-    ensures { λ r. ⌜ Crosses call (now (area .entry)) (now (area .exit)) r ⌝ }
+// A call's answer as one number, out of which it comes back.
+fn cross(a: Answer) -> u64
+    requires { ⌜ ((c : Call) × (old : List ℕ) × (new : List ℕ) × Performs c old new a) ⌝ }
+    ensures { λ r. ⌜ Carries 10 r (fieldsOf a) ⌝ }
 {
-    monitor::pack(monitor::perform(area, call))
+    monitor::pack(a)
 }
 
 #[no_mangle]
 pub extern "C" fn kernel_enter(area: &mut [u16], lock: u16) -> u64
     ensures { λ r. ⌜ Crosses (Enter lock) (now (area .entry)) (now (area .exit)) r ⌝ }
 {
-    cross(area, Call::Enter { lock: lock })
+    cross(monitor::enter(area, lock))
 }
 
 #[no_mangle]
 pub extern "C" fn kernel_exit(area: &mut [u16], lock: u16) -> u64
     ensures { λ r. ⌜ Crosses (Exit lock) (now (area .entry)) (now (area .exit)) r ⌝ }
 {
-    cross(area, Call::Exit { lock: lock })
+    cross(monitor::exit(area, lock))
 }
 
 #[no_mangle]
 pub extern "C" fn kernel_wait(area: &mut [u16], lock: u16, condition: u16, ticks: u16) -> u64
     ensures { λ r. ⌜ Crosses (Wait lock condition (record { 0 = ticks })) (now (area .entry)) (now (area .exit)) r ⌝ }
 {
-    cross(
-        area,
-        Call::Wait {
-            lock: lock,
-            condition: condition,
-            ticks: Ticks(ticks),
-        },
-    )
+    cross(monitor::wait(area, lock, condition, Ticks(ticks)))
 }
 
 #[no_mangle]
 pub extern "C" fn kernel_notify(area: &mut [u16], condition: u16) -> u64
     ensures { λ r. ⌜ Crosses (Notify condition) (now (area .entry)) (now (area .exit)) r ⌝ }
 {
-    cross(
-        area,
-        Call::Notify {
-            condition: condition,
-        },
-    )
+    cross(monitor::notify(area, condition))
 }
 
 #[no_mangle]
 pub extern "C" fn kernel_broadcast(area: &mut [u16], condition: u16) -> u64
     ensures { λ r. ⌜ Crosses (Broadcast condition) (now (area .entry)) (now (area .exit)) r ⌝ }
 {
-    cross(
-        area,
-        Call::Broadcast {
-            condition: condition,
-        },
-    )
+    cross(monitor::broadcast(area, condition))
 }
 
 #[no_mangle]
 pub extern "C" fn kernel_naked(area: &mut [u16], condition: u16) -> u64
     ensures { λ r. ⌜ Crosses (Naked condition) (now (area .entry)) (now (area .exit)) r ⌝ }
 {
-    cross(
-        area,
-        Call::Naked {
-            condition: condition,
-        },
-    )
+    cross(monitor::naked(area, condition))
 }
 
 #[no_mangle]
@@ -121,33 +106,21 @@ pub extern "C" fn kernel_requeue(
 ) -> u64
     ensures { λ r. ⌜ Crosses (Requeue source destination (record { 0 = process })) (now (area .entry)) (now (area .exit)) r ⌝ }
 {
-    cross(
-        area,
-        Call::Requeue {
-            source: source,
-            destination: destination,
-            process: Process(process),
-        },
-    )
+    cross(monitor::requeue(area, source, destination, Process(process)))
 }
 
 #[no_mangle]
 pub extern "C" fn kernel_set_priority(area: &mut [u16], priority: u16) -> u64
     ensures { λ r. ⌜ Crosses (SetPriority (record { 0 = priority })) (now (area .entry)) (now (area .exit)) r ⌝ }
 {
-    cross(
-        area,
-        Call::SetPriority {
-            priority: Priority(priority),
-        },
-    )
+    cross(monitor::set_priority(area, Priority(priority)))
 }
 
 #[no_mangle]
 pub extern "C" fn kernel_tick(area: &mut [u16]) -> u64
     ensures { λ r. ⌜ Crosses Tick (now (area .entry)) (now (area .exit)) r ⌝ }
 {
-    cross(area, Call::Tick)
+    cross(monitor::tick(area))
 }
 
 // ---- List

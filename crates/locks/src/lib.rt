@@ -34,7 +34,8 @@ fn release(area: &mut [u16], shape: Shape, lock: u16) -> u16
         return 0;
     }
     let to = area::ready_at();
-    moves::send(area, shape, from, to, first, 0);
+    let base = area::records_at(shape);
+    moves::send(area, base, from, to, first, 0);
     1
 }
 
@@ -47,7 +48,8 @@ fn block(area: &mut [u16], shape: Shape, lock: u16, p: u16)
     area::put(area, places::failed(shape, p), 1);
     let from = area::ready_at();
     let to = area::lock_at(shape, lock);
-    moves::send(area, shape, from, to, p, 0);
+    let base = area::records_at(shape);
+    moves::send(area, base, from, to, p, 0);
 }
 
 pub fn enter(area: &mut [u16], shape: Shape, lock: u16) -> Answer

@@ -46,7 +46,8 @@ fn sleep(area: &mut [u16], shape: Shape, condition: u16, p: u16, ticks: Ticks)
     area::put(area, places::timer(shape, p), due);
     let from = area::ready_at();
     let to = area::condition_at(shape, condition);
-    moves::send(area, shape, from, to, p, 1);
+    let base = area::records_at(shape);
+    moves::send(area, base, from, to, p, 1);
 }
 
 pub fn wait(area: &mut [u16], shape: Shape, lock: u16, condition: u16, ticks: Ticks) -> Answer

@@ -38,13 +38,7 @@ module _ {P : Fields → List Note → ℕ → Type 0} where
   nakedly-by c [] s h k = h refl
   nakedly-by c (x ∷ ys) s h k = k x ys refl
 
-  -- what is accepted has the property, and what is refused has such a code
-  pub of-accept : {e : Effect} {f : Fields} {ms : List Note} {k : ℕ} → Accepted P e → e ≡ accept f ms k → P f ms k
-  of-accept {f} {ms} {k} a d = go (subst (Accepted P) d a)
-    where
-      go : Accepted P (accept f ms k) → P f ms k
-      go (accepted p) = p
-
+  -- what is refused has such a code
   pub of-refuse : {k : ℕ} → Accepted P (refuse k) → (2 ≤ k) × (k ≤ 10)
   of-refuse {k} (refused e) = let s = and-split (leb 2 k) (leb k 10) e in (so (leb-case 2 k) (s .0), so (leb-case k 10) (s .1))
 

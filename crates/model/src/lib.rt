@@ -50,11 +50,11 @@ pub enum Call {
     Tick,
 }
 
-// What Start and each of the nine calls answer. Code 0 accepts; a refusal has zeros beside its code.
+// What Start and each of the nine calls answer. Code 0 accepts; a refusal has zeros beside its code. The code stands amidst the others: four zeros side by side a compiler writes as one number, and then it takes every answer apart again.
 pub struct Answer {
-    pub code: u16,
     pub running: u16,
     pub retry: u16,
+    pub code: u16,
     pub mark: u16,
     pub moved: u16,
 }

@@ -2,7 +2,7 @@
 -- Assumes nothing.
 use Prim.Native.Nat.{ℕ, _≤_}
 use native.Mathlib.Omega.{arith}
-use mathlib.Core.Path.{_≡_, refl, sym, _∙_, subst}
+use mathlib.Core.Path.{_≡_, refl, sym, _∙_}
 use mathlib.Core.Bool.{Bool, true, false, not, true≢false}
 use mathlib.Core.List.{List}
 use lib.ListN.{length}
@@ -46,39 +46,38 @@ abbrev pub Checked : List ℕ → Bool → Type 0
 Checked ws r = (r ≡ true → Sound ws) × (Sound ws → r ≡ true)
 
 -- the check said no
-pub performs-not : {c : Call} {old : List ℕ} {a : Answer} (r : Bool) → Checked old r → not r ≡ true → a ≡ refusal 1 → Performs c old old a
-performs-not r h k e = record { unsound = λ z. (e, refl); sound = λ S. absurd (true≢false (sym (h .1 S) ∙ not-true r k)) }
+module _ {old : List ℕ} {r : Bool} (h : Checked old r) (k : not r ≡ true) where
+  not-sound : Sound old → ⊥
+  not-sound S = true≢false (sym (h .1 S) ∙ not-true r k)
+
+  pub performs-not : {c : Call} {a : Answer} → a ≡ refusal 1 → Performs c old old a
+  performs-not e = record { unsound = λ z. (e, refl); sound = λ S. absurd (not-sound S) }
+
+  pub lists-not : {kind number : ℕ} {buffer : List ℕ} {l : Listed} → l .code ≡ 1 → l .count ≡ 0 → ListsOn kind number old buffer buffer l
+  lists-not c d = record { unsound = λ z. record { code = c; count = d; buffer = refl }; sound = λ S. absurd (not-sound S) }
 
 -- the check said yes
-pub checked : {old : List ℕ} (r : Bool) → Checked old r → not r ≡ false → Sound old
-checked r h k = h .0 (not-false r k)
+module _ {old : List ℕ} {r : Bool} (h : Checked old r) (k : not r ≡ false) where
+  checked : Sound old
+  checked = h .0 (not-false r k)
 
-pub counts-there : {old : List ℕ} → Sound old → 3 ≤ length old
-counts-there S = let l = S .long in omega arith
+  pub counts-there : 3 ≤ length old
+  counts-there = let l = checked .long in omega arith
 
-module _ {old : List ℕ} (n : Shape) (said : n ≡ shapeOf old) (S : Sound old) where
-  pub stands-at : Stands n old
-  stands-at = rw said (own-stands S)
+  module _ {n : Shape} (said : n ≡ shapeOf old) where
+    pub stands-at : Stands n old
+    stands-at = rw said (own-stands checked)
 
-  pub held-at : Held n old
-  held-at = (stands-at .state, stands-at .holds)
+    pub held-at : Held n old
+    held-at = (stands-at .state, stands-at .holds)
 
-  pub performs-at : {c : Call} {new : List ℕ} {a : Answer} → ((s : State model) → Holds n old s → Valid n s → Does c n old new s a) → Performs c old new a
-  performs-at {c} {new} {a} d =
-      let e : (m : Shape) → n ≡ m → Holds m old (stateOf old) → Valid m (stateOf old) → Does c m old new (stateOf old) a = λ m p. subst (λ (k : Shape). Holds k old (stateOf old) → Valid k (stateOf old) → Does c k old new (stateOf old) a) p (d (stateOf old)) in
-      performs S (e (shapeOf old) said (own-holds S) (S .valid))
+    pub performs-at : {c : Call} {new : List ℕ} {a : Answer} → ((s : State model) → Holds n old s → Valid n s → Does c n old new s a) → Performs c old new a
+    performs-at d = performs checked ((rw said at d) (stateOf old) (own-holds checked) (checked .valid))
 
--- a call known by what it is
-pub does-as : {c d : Call} {n : Shape} {old new : List ℕ} {a : Answer} (s : State model) → c ≡ d → Does d n old new s a → Does c n old new s a
-does-as {n = n} {old = old} {new = new} {a = a} s e D = subst (λ (k : Call). Does k n old new s a) (sym e) D
+    pub lists-at : {kind number : ℕ} {buffer new : List ℕ} {l : Listed} → ((s : State model) → Holds n old s → Lists kind number n s buffer new l) → ListsOn kind number old buffer new l
+    lists-at d = record { unsound = λ z. absurd (z checked); sound = λ z. (rw said at d) (stateOf old) (own-holds checked) }
 
--- ---- List
+-- ---- a call known by what it is
 
-pub lists-not : {kind number : ℕ} {ws buffer : List ℕ} {r : Listed} (b : Bool) → Checked ws b → not b ≡ true → r .code ≡ 1 → r .count ≡ 0 → ListsOn kind number ws buffer buffer r
-lists-not b h k c d = record { unsound = λ z. record { code = c; count = d; buffer = refl }; sound = λ S. absurd (true≢false (sym (h .1 S) ∙ not-true b k)) }
-
-pub lists-at : {kind number : ℕ} {ws old new : List ℕ} {r : Listed} (n : Shape) → n ≡ shapeOf ws → Sound ws
-    → ((s : State model) → Holds n ws s → Lists kind number n s old new r) → ListsOn kind number ws old new r
-lists-at {kind} {number} {ws} {old} {new} {r} n said S d =
-    let e : (m : Shape) → n ≡ m → Holds m ws (stateOf ws) → Lists kind number m (stateOf ws) old new r = λ m p. subst (λ (k : Shape). Holds k ws (stateOf ws) → Lists kind number k (stateOf ws) old new r) p (d (stateOf ws)) in
-    record { unsound = λ z. absurd (z S); sound = λ z. e (shapeOf ws) said (own-holds S) }
+pub performs-as : {c d : Call} {old new : List ℕ} {a : Answer} → c ≡ d → Performs d old new a → Performs c old new a
+performs-as e P = rw e P

@@ -1,56 +1,141 @@
 // The kernel's calls on any words whatever: an unsound area is refused, and a sound one is served. Assumes nothing.
 use model::Answer;
 use model::Call;
-use model::Shape;
+use model::Priority;
+use model::Process;
+use model::Ticks;
 use queues::listing::Listed;
 ghost use mathlib.Core.Path.{_≡_};
 ghost use Prim.Native.Nat.{_+_, _*_, _%_, _^_, _<_};
-ghost use Rattle.model.specs.Machine.{State, model};
-ghost use Rattle.model.specs.Valid.{Valid};
-ghost use Rattle.area.specs.Holds.{Holds};
-ghost use Rattle.area.specs.Calls.{Stands, Does};
+ghost use Rattle.model.specs.declared.Call.the-variants.{Enter, Exit, Wait, Notify, Broadcast, Naked, Requeue, SetPriority, Tick};
+ghost use Rattle.model.specs.Machine.{refusal};
 ghost use Rattle.monitor.specs.Calls.{Performs, ListsOn};
 ghost use Rattle.monitor.specs.Wire.{packed, listFields, numberOf};
 
 pub mod replay;
 
-// ---- the calls
+// ---- the calls, each on any words: it is asked whether the area is sound, and the crate that has the call makes it
 
-// The call on an area that holds a valid state, by the crate that has it.
-fn act(area: &mut [u16], shape: Shape, call: Call) -> Answer
-    requires { ⌜ Stands shape (now area) ⌝ }
-    ensures { λ r. ⌜ ((s : State model) → Holds shape (now (area .entry)) s → Valid shape s → Does call shape (now (area .entry)) (now (area .exit)) s r) ⌝ }
+// What an unsound area is answered.
+fn unsound() -> Answer
+    ensures { λ r. ⌜ r ≡ refusal 1 ⌝ }
+{
+    moves::answers::refusal(1)
+}
+
+pub fn enter(area: &mut [u16], lock: u16) -> Answer
+    ensures { λ r. ⌜ Performs (Enter lock) (now (area .entry)) (now (area .exit)) r ⌝ }
+{
+    if !sound::sound(area) {
+        return unsound();
+    }
+    let shape = area::shape_of(area);
+    locks::enter(area, shape, lock)
+}
+
+pub fn exit(area: &mut [u16], lock: u16) -> Answer
+    ensures { λ r. ⌜ Performs (Exit lock) (now (area .entry)) (now (area .exit)) r ⌝ }
+{
+    if !sound::sound(area) {
+        return unsound();
+    }
+    let shape = area::shape_of(area);
+    locks::exit(area, shape, lock)
+}
+
+pub fn wait(area: &mut [u16], lock: u16, condition: u16, ticks: Ticks) -> Answer
+    ensures { λ r. ⌜ Performs (Wait lock condition ticks) (now (area .entry)) (now (area .exit)) r ⌝ }
+{
+    if !sound::sound(area) {
+        return unsound();
+    }
+    let shape = area::shape_of(area);
+    locks::waits::wait(area, shape, lock, condition, ticks)
+}
+
+pub fn notify(area: &mut [u16], condition: u16) -> Answer
+    ensures { λ r. ⌜ Performs (Notify condition) (now (area .entry)) (now (area .exit)) r ⌝ }
+{
+    if !sound::sound(area) {
+        return unsound();
+    }
+    let shape = area::shape_of(area);
+    wakes::notify(area, shape, condition)
+}
+
+pub fn broadcast(area: &mut [u16], condition: u16) -> Answer
+    ensures { λ r. ⌜ Performs (Broadcast condition) (now (area .entry)) (now (area .exit)) r ⌝ }
+{
+    if !sound::sound(area) {
+        return unsound();
+    }
+    let shape = area::shape_of(area);
+    wakes::broadcast(area, shape, condition)
+}
+
+pub fn naked(area: &mut [u16], condition: u16) -> Answer
+    ensures { λ r. ⌜ Performs (Naked condition) (now (area .entry)) (now (area .exit)) r ⌝ }
+{
+    if !sound::sound(area) {
+        return unsound();
+    }
+    let shape = area::shape_of(area);
+    wakes::naked(area, shape, condition)
+}
+
+pub fn requeue(area: &mut [u16], source: u16, destination: u16, process: Process) -> Answer
+    ensures { λ r. ⌜ Performs (Requeue source destination process) (now (area .entry)) (now (area .exit)) r ⌝ }
+{
+    if !sound::sound(area) {
+        return unsound();
+    }
+    let shape = area::shape_of(area);
+    queues::requeue(area, shape, source, destination, process)
+}
+
+pub fn set_priority(area: &mut [u16], priority: Priority) -> Answer
+    ensures { λ r. ⌜ Performs (SetPriority priority) (now (area .entry)) (now (area .exit)) r ⌝ }
+{
+    if !sound::sound(area) {
+        return unsound();
+    }
+    let shape = area::shape_of(area);
+    queues::ranks::set_priority(area, shape, priority)
+}
+
+pub fn tick(area: &mut [u16]) -> Answer
+    ensures { λ r. ⌜ Performs Tick (now (area .entry)) (now (area .exit)) r ⌝ }
+{
+    if !sound::sound(area) {
+        return unsound();
+    }
+    let shape = area::shape_of(area);
+    wakes::clock::tick(area, shape)
+}
+
+// Any of the nine.
+pub fn perform(area: &mut [u16], call: Call) -> Answer
+    ensures { λ r. ⌜ Performs call (now (area .entry)) (now (area .exit)) r ⌝ }
 {
     match call {
-        Call::Enter { lock } => locks::enter(area, shape, lock),
-        Call::Exit { lock } => locks::exit(area, shape, lock),
+        Call::Enter { lock } => enter(area, lock),
+        Call::Exit { lock } => exit(area, lock),
         Call::Wait {
             lock,
             condition,
             ticks,
-        } => locks::waits::wait(area, shape, lock, condition, ticks),
-        Call::Notify { condition } => wakes::notify(area, shape, condition),
-        Call::Broadcast { condition } => wakes::broadcast(area, shape, condition),
-        Call::Naked { condition } => wakes::naked(area, shape, condition),
+        } => wait(area, lock, condition, ticks),
+        Call::Notify { condition } => notify(area, condition),
+        Call::Broadcast { condition } => broadcast(area, condition),
+        Call::Naked { condition } => naked(area, condition),
         Call::Requeue {
             source,
             destination,
             process,
-        } => queues::requeue(area, shape, source, destination, process),
-        Call::SetPriority { priority } => queues::ranks::set_priority(area, shape, priority),
-        Call::Tick => wakes::clock::tick(area, shape),
+        } => requeue(area, source, destination, process),
+        Call::SetPriority { priority } => set_priority(area, priority),
+        Call::Tick => tick(area),
     }
-}
-
-// Any call on any words. This is the one door: here it is asked whether the area is sound.
-pub fn perform(area: &mut [u16], call: Call) -> Answer
-    ensures { λ r. ⌜ Performs call (now (area .entry)) (now (area .exit)) r ⌝ }
-{
-    if !sound::sound(area) {
-        return moves::answers::refusal(1);
-    }
-    let shape = area::shape_of(area);
-    act(area, shape, call)
 }
 
 // ---- reads

@@ -10,6 +10,7 @@ use mathlib.Core.List.{List, [], _∷_}
 use Rattle.model.specs.declared.Shape.{Shape}
 use Rattle.model.specs.Queue.{Queue, inside, exists, bit, member, count, remove, insert, move, Falling, isCondition}
 use Rattle.model.specs.Field.{Field, Fields, put, priorities}
+use Rattle.model.specs.Queue.Queue.{ready}
 use Rattle.model.specs.Field.Field.{priority}
 use Rattle.model.specs.Machine.{State, model}
 use Rattle.model.specs.Valid.{room, Placed}
@@ -18,16 +19,17 @@ use Rattle.model.proofs.Lists.{SameOff, falling-remove, falling-insert, remove-
 use Rattle.model.proofs.Places as places
 use Rattle.model.proofs.Places.{stands-move, falling-moves}
 use Rattle.model.proofs.Simulation.{lead}
-use Rattle.area.specs.Layout.{Parts, alter, Image, Stored}
+use Rattle.area.specs.Layout.{Parts, alter, at, Stored}
 use Rattle.area.specs.Layout.Part.{kept, waiting}
+use Rattle.area.specs.Layout.Slot.{Tail}
 use Rattle.area.specs.State.{laid}
-use Rattle.area.specs.Holds.{Becomes, Moves, with, sent}
+use Rattle.area.specs.Holds.{Holds, Becomes, Moves, with, sent}
 use Rattle.area.specs.Rings.{swap, ranks, Relinked, Leaves, Joins}
 use Rattle.area.specs.Loose.{Loose}
-use Rattle.area.proofs.Stores.{alter-here}
+use Rattle.area.proofs.Stores.{alter-here, alter-own}
 use Rattle.area.proofs.Rings.{one-queue}
 use Rattle.moves.proofs.Loose.{loose-of, loose-relinked, loose-put, settled}
-use Rattle.moves.proofs.Shared.{put-own}
+use Rattle.moves.proofs.Shared.{put-own, going}
 
 module _ {n : Shape} {ws : List ℕ} {at-from at-to p waits : ℕ} (m : Moves n ws at-from at-to p waits) where
   pub move-waits : waits < 2
@@ -72,10 +74,6 @@ module _ {n : Shape} {ws : List ℕ} {at-from at-to p waits : ℕ} (m : Moves n 
   pub without-out : (q : Queue) → member p (without q) ≡ false
   without-out q = rw (without-is q) (member-bit p (remove p (s .queues q)) false (count-remove-same p (s .queues q)))
 
-  -- who is left of a queue stood there
-  without-member : (q : Queue) (x : ℕ) → member x (without q) ≡ true → member x (s .queues q) ≡ true
-  without-member q x k = remove-member x p (s .queues q) (rw (without-is q) at k)
-
   pub off : SameOff p (priorities (s .fields)) (priorities (s′ .fields))
   off x h = sym (put-away (priority p) v (s .fields) (priority x) (λ d. h (cc)))
 
@@ -83,7 +81,7 @@ module _ {n : Shape} {ws : List ℕ} {at-from at-to p waits : ℕ} (m : Moves n 
   falls-without q = rw (without-is q) (falling-remove (priorities (s .fields)) (priorities (s′ .fields)) p (s .queues q) off (m .holds .placed .falls q))
 
   module _ {ws₁ ws₂ : List ℕ} (L : Relinked n ws ws₁ (laid n s) (s .queues) (m .from) (remove p (s .queues (m .from))))
-      (W : (t : Parts) → Image n ws₁ t → Stored n ws₁ ws₂ (alter (waiting p) waits (alter (kept (priority p)) v t))) where
+      (W : Stored n ws₁ ws₂ (alter (waiting p) waits (alter (kept (priority p)) v (L .parts)))) where
     abbrev loose₁ : Loose n ws ws₁ (s .fields) without
     loose₁ = loose-relinked (m .from) (remove p (s .queues (m .from))) (loose-of (m .holds))
         (λ x k. loose-of (m .holds) .waits (m .from) x (remove-member x p (s .queues (m .from)) k))
@@ -93,7 +91,7 @@ module _ {n : Shape} {ws : List ℕ} {at-from at-to p waits : ℕ} (m : Moves n 
     -- ---- it takes its priority and its waiting bit
 
     abbrev loose₂ : Loose n ws ws₂ (s′ .fields) without
-    loose₂ = loose-put (priority p) v p waits loose₁ (λ l e. let z : _≡_ {A = ℕ} 0 1 = cc in omega arith) without-out falls-without (W (L .parts) (L .rings .image))
+    loose₂ = loose-put (priority p) v p waits loose₁ (λ l e. let z : _≡_ {A = ℕ} 0 1 = cc in omega arith) without-out falls-without W
 
     pub ranks-are : ranks (loose₂ .parts) ≡ priorities (s′ .fields)
     ranks-are = fun-ext (λ x. loose₂ .fields (priority x))
@@ -157,11 +155,28 @@ module _ {n : Shape} {ws : List ℕ} {at-from at-to p waits : ℕ} (m : Moves n 
 
 -- ---- with the priority that it has
 
-module _ {n : Shape} {ws : List ℕ} {at-from at-to p waits : ℕ} (m : Moves n ws at-from at-to p waits) (v : ℕ) (own : v ≡ m .state .fields (priority p)) where
-  pub own-rank : v < 8
-  own-rank = let r : m .state .fields (priority p) < 8 = rw (m .process) at (m .holds .placed .range (priority p)) in omega arith
+module _ {n : Shape} {ws : List ℕ} {at-from at-to p waits : ℕ} (m : Moves n ws at-from at-to p waits) where
+  abbrev pub own-rank : ℕ
+  own-rank = m .state .fields (priority p)
 
-  pub sent-own : {new : List ℕ} → Becomes n ws new (sent p (m .to) (with (priority p) v (m .state))) → Becomes n ws new (sent p (m .to) (m .state))
+  pub own-small : own-rank < 8
+  own-small = rw (m .process) at (m .holds .placed .range (priority p))
+
+  pub own-waiting : {ws₁ ws₂ : List ℕ} (L : Relinked n ws ws₁ (laid n (m .state)) (m .state .queues) (m .from) (remove p (m .state .queues (m .from))))
+      → Stored n ws₁ ws₂ (alter (waiting p) waits (L .parts)) → Stored n ws₁ ws₂ (alter (waiting p) waits (alter (kept (priority p)) own-rank (L .parts)))
+  own-waiting {ws₁} {ws₂} L st = subst (λ (t : Parts). Stored n ws₁ ws₂ (alter (waiting p) waits t)) (sym (alter-own (kept (priority p)) own-rank (L .parts) (L .others (kept (priority p)) refl))) st
+
+  pub sent-own : {new : List ℕ} → Becomes n ws new (sent p (m .to) (with (priority p) own-rank (m .state))) → Becomes n ws new (sent p (m .to) (m .state))
   sent-own {new} b =
-      subst (λ (f : Fields). Becomes n ws new (record { fields = f; queues = move (priorities f) (m .state .queues) p (m .to) }))
-      (ap (λ x. put (priority p) x (m .state .fields)) own ∙ put-own (priority p) (m .state .fields)) b
+      subst (λ (f : Fields). Becomes n ws new (record { fields = f; queues = move (priorities f) (m .state .queues) p (m .to) })) (put-own (priority p) (m .state .fields)) b
+
+-- ---- in ready, with another
+
+module _ {n : Shape} {ws : List ℕ} {s : State model} {p : ℕ} (H : Holds n ws s) (stands : member p (s .queues ready) ≡ true) where
+  -- from ready to ready
+  abbrev pub in-ready : {i : ℕ} → i ≡ at n (Tail ready) → Moves n ws i i p 0
+  in-ready e = going H ready ready refl refl e e stands refl
+
+  pub own-rest : {ws₁ ws₂ : List ℕ} (v : ℕ) (L : Relinked n ws ws₁ (laid n s) (s .queues) ready (remove p (s .queues ready)))
+      → Stored n ws₁ ws₂ (alter (kept (priority p)) v (L .parts)) → Stored n ws₁ ws₂ (alter (waiting p) 0 (alter (kept (priority p)) v (L .parts)))
+  own-rest {ws₁} {ws₂} v L st = subst (λ (t : Parts). Stored n ws₁ ws₂ t) (sym (alter-own (waiting p) 0 (alter (kept (priority p)) v (L .parts)) (L .others (waiting p) refl ∙ loose-of H .waits ready p stands))) st

@@ -1,19 +1,17 @@
--- What two tests on a number say together: it is one of those that the counts give, or it is not; what the first of a queue says: 0 where the
--- queue is empty, since no process is 0, and else a process; and that an area keeps its length. Assumes nothing.
+-- What two tests on a number say together: it is one of those that the counts give, or it is not; and what the first of a queue says: 0 where
+-- the queue is empty, since no process is 0, and else a process. Assumes nothing.
 use Prim.Native.Nat.{ℕ, suc, _≤_, _<_}
 use native.Mathlib.Omega.{arith}
-use mathlib.Core.Path.{_≡_, refl, sym, ap, _∙_}
+use mathlib.Core.Path.{_≡_, refl, sym, _∙_}
 use mathlib.Core.Bool.{true, false, or-true}
 use mathlib.Core.Logic.{_≢_, _⊎_, inl, inr}
 use mathlib.Core.List.{List, [], _∷_}
-use lib.ListN.{length, drop, length-drop}
 use Rattle.model.specs.declared.Shape.{Shape}
 use Rattle.model.specs.Queue.{Queue, outside, inside, member, first, firstOnly}
 use Rattle.model.specs.Machine.{State, model}
 use Rattle.model.proofs.Tests.{eqb-yes, leb-yes, inside-bounds, bounds-inside, not-true}
 use Rattle.model.proofs.Lists.{member-here, first-member}
-use Rattle.area.specs.Layout.{size}
-use Rattle.area.specs.Holds.{Holds, Becomes}
+use Rattle.area.specs.Holds.{Holds}
 use Rattle.area.proofs.Rings.{member-inside}
 
 -- ---- tests on a number
@@ -61,13 +59,3 @@ first-there {s = s} H q e h = first-stands (s .queues q) e h
 
 pub first-inside : {n : Shape} {ws : List ℕ} {s : State model} → Holds n ws s → (q : Queue) {f : ℕ} → f ≡ first (s .queues q) → f ≢ 0 → inside (n .processes) f ≡ true
 first-inside {n} {s = s} H q {f} e h = member-inside n s (H .placed) f q (first-there H q e h)
-
--- ---- lengths
-
--- no words come and none go
-pub as-long : {n : Shape} {old new : List ℕ} {s t : State model} → Holds n old s → Becomes n old new t → length new ≡ length old
-as-long {n} {old} {new} H b =
-    let c = length-drop (size n) old in
-    let d = length-drop (size n) new in
-    let e : length (drop (size n) new) ≡ length (drop (size n) old) = ap length (b .beyond) in
-    omega (arith, H .image .long, b .holds .image .long)

@@ -8,8 +8,8 @@ use mathlib.Core.Bool.{true, false, true≢false}
 use mathlib.Core.Logic.{_≢_}
 use mathlib.Core.List.{List, _∷_, _++_}
 use lib.Dec.{eqb}
-use lib.ListN.{length, getD, drop, take, set, length-append}
-use lib.Seq.{drop-set-lt, length-take-le, drop-append-seam}
+use lib.ListN.{length, getD, drop, take, set, length-append, take-append-drop}
+use lib.Seq.{drop-set-lt, length-take-le, drop-append-seam, set-getD}
 use Rattle.model.specs.declared.Shape.{Shape}
 use Rattle.model.specs.Queue.{Queue, inside, exists, member, remove, insert, Falling}
 use Rattle.model.specs.Queue.Queue.{ready, park, lock, condition}
@@ -21,7 +21,7 @@ use Rattle.ring.specs.Ring.{Ring, Kept, Left, Joined}
 use Rattle.ring.proofs.Frame.{left-kept, left-ring, joined-kept, joined-ring}
 use Rattle.ring.proofs.Rings.{ring-tail-small}
 use Rattle.ring.proofs.Places.{falling-agree, insert-agree}
-use Rattle.area.specs.Layout.{Part, Parts, alter, recordsAt, at, Stored}
+use Rattle.area.specs.Layout.{Part, Parts, alter, recordsAt, at, Image, Stored}
 use Rattle.area.specs.Layout.Part.{kept, tail, next, locked, waiting}
 use Rattle.area.specs.Layout.Slot.{Tail}
 use Rattle.area.specs.State.{last}
@@ -35,6 +35,9 @@ told w u = go (w / 8192) (w / 8 % 1024) (w % 8) (split w)
   where
     go : (a b c : ℕ) → w ≡ a * 8192 + b * 8 + c → a * 8192 + u * 8 + c + b * 8 ≡ w + u * 8
     go a b c e = omega arith
+
+relink-own : (w : ℕ) → relink w (w / 8 % 1024) ≡ w
+relink-own w = let e = told w (w / 8 % 1024) in omega arith
 
 -- a tail's word stands before the records
 pub tail-front : (n : Shape) (q : Queue) → exists n q ≡ true → at n (Tail q) < recordsAt n
@@ -128,6 +131,20 @@ module _ (n : Shape) (ws : List ℕ) (t : Parts) (qs : Queue → List ℕ) (q : 
 pub lent : (n : Shape) {a : ℕ} (ws : List ℕ) → a ≡ recordsAt n → midOf a (length ws - a) ws ≡ records n ws
 lent n {a} ws e = part-lent a ws ∙ ap (λ k. drop k ws) e
 
+-- behind the front they are the area, and so is what comes back
+module _ {n : Shape} {ws : List ℕ} {t : Parts} {a : ℕ} (e : a ≡ recordsAt n) (im : Image n ws t) where
+  pub lent-front : length (take (recordsAt n) ws) ≡ recordsAt n
+  lent-front = length-take-le (recordsAt n) ws (omega (arith, im .long))
+
+  whole : take (recordsAt n) ws ++ midOf a (length ws - a) ws ≡ ws
+  whole = ap (λ (r : List ℕ). take (recordsAt n) ws ++ r) (lent n ws e) ∙ take-append-drop (recordsAt n) ws
+
+  pub lent-image : Image n (take (recordsAt n) ws ++ midOf a (length ws - a) ws) t
+  lent-image = subst (λ (l : List ℕ). Image n l t) (sym whole) im
+
+  pub back-stored : (r : List ℕ) {u : Parts} → Stored n (take (recordsAt n) ws ++ midOf a (length ws - a) ws) (take (recordsAt n) ws ++ r) u → Stored n ws (putMid a (length ws - a) ws r) u
+  back-stored r {u} st = rw (part-back a ws r, e) (subst (λ (l : List ℕ). Stored n l (take (recordsAt n) ws ++ r) u) whole st)
+
 -- the tail that its word says
 pub tail-read : {n : Shape} {ws : List ℕ} {t : Parts} {qs : Queue → List ℕ} (q : Queue) {i w : ℕ} → Rings n ws t qs → exists n q ≡ true → i ≡ at n (Tail q) → w ≡ getD ws i 0 / 8 % 1024 → w ≡ last (qs q)
 tail-read {n} {ws} {t} q {i} R given here reads = reads ∙ load-at n ws t (R .image) (tail q) i given here 8 1024 refl refl ∙ R .tails q given
@@ -164,6 +181,18 @@ module _ {n : Shape} {ws : List ℕ} {i p : ℕ} (j : Leaves n ws i p) (a w : �
 
       apart : (o : Queue) → j .queue ≢ o → (x : ℕ) → member x (j .queues o) ≡ true → member x xs ≡ false
       apart o d x m = denied (member x xs) (λ k. d (j .rings .one (j .queue) o x k m))
+
+  -- where the tail stays, its word need not be written
+  pub left-stays : member p (j .queues (j .queue)) ≡ true → (r : List ℕ) (u : ℕ) → Left (midOf a (length ws - a) ws) r w p u (j .queues (j .queue)) → u ≡ w
+      → Relinked n ws (putMid a (length ws - a) ws r) (j .parts) (j .queues) (j .queue) (remove p (j .queues (j .queue)))
+  left-stays stands r u l e =
+      subst (λ (z : List ℕ). Relinked n ws z (j .parts) (j .queues) (j .queue) (remove p (j .queues (j .queue)))) same (left-relinks stands r u (relink (getD ws i 0) u) l refl)
+    where
+      here : getD (putMid a (length ws - a) ws r) i 0 ≡ getD ws i 0
+      here = rw (part-back a ws r, at-records) (front-at n ws (j .parts) (j .rings .image) r i (rw (j .here) (tail-front n (j .queue) (j .given))))
+
+      same : set (putMid a (length ws - a) ws r) i (relink (getD ws i 0) u) ≡ putMid a (length ws - a) ws r
+      same = ap (set (putMid a (length ws - a) ws r) i) (ap (relink (getD ws i 0)) (e ∙ reads) ∙ (relink-own (getD ws i 0) ∙ sym here)) ∙ set-getD (putMid a (length ws - a) ws r) i 0
 
 -- ---- p joins
 

@@ -6,11 +6,12 @@ ghost use mathlib.Core.Bool.{true};
 ghost use mathlib.Core.List.{_++_};
 ghost use Prim.Native.Nat.{_<_, _≤_};
 ghost use lib.ListN.{length, drop};
-ghost use Rattle.model.specs.Queue.{Queue, exists, remove, insert, first};
+ghost use Rattle.model.specs.declared.Shape.{Shape};
+ghost use Rattle.model.specs.Queue.{Queue, exists, member, remove, insert, first};
 ghost use Rattle.model.specs.Queue.Queue.{ready};
 ghost use Rattle.model.specs.Field.Field.{priority};
 ghost use Rattle.model.specs.Machine.{State, model, retry};
-ghost use Rattle.area.specs.Layout.{at};
+ghost use Rattle.area.specs.Layout.{at, recordsAt};
 ghost use Rattle.area.specs.Layout.Slot.{Tail};
 ghost use Rattle.area.specs.Holds.{Holds, Held, Becomes, Tried, Moves, with, sent, dispatched};
 ghost use Rattle.area.specs.Rings.{Leaves, Joins, Relinked, ranks};
@@ -52,65 +53,61 @@ pub fn copy_out(area: &[u16], shape: Shape, i: usize, out: &mut [u16]) -> u16
     ring::write_out(&area[at..], tail, out)
 }
 
-// ---- moves
+// ---- moves; the records begin at base
 
 // p leaves the ring whose tail stands at i, if it stands there. Whether it does.
-fn take_out(area: &mut [u16], shape: Shape, i: usize, p: u16) -> bool
-    requires { ⌜ Leaves shape (now area) i p ⌝ }
-    ensures { λ r. ⌜ ((j : Leaves shape (now (area .entry)) i p) → Tried (j .stood) r (now (area .entry)) (now (area .exit)) (Relinked shape (now (area .entry)) (now (area .exit)) (j .parts) (j .queues) (j .queue) (remove p (j .queues (j .queue))))) ⌝ }
+fn take_out(area: &mut [u16], base: usize, i: usize, p: u16) -> bool
+    requires { ⌜ ((n : Shape) × (base ≡ recordsAt n) × Leaves n (now area) i p) ⌝ }
+    ensures { λ r. ⌜ ((n : Shape) → base ≡ recordsAt n → (j : Leaves n (now (area .entry)) i p) → Tried (j .stood) r (now (area .entry)) (now (area .exit)) (Relinked n (now (area .entry)) (now (area .exit)) (j .parts) (j .queues) (j .queue) (remove p (j .queues (j .queue))))) ⌝ }
 {
-    let at = area::records_at(shape);
     let word = area[i];
     let tail = ring::next_field(word);
-    let prev = ring::before(&area[at..], tail, p);
+    let prev = ring::before(&area[base..], tail, p);
     if prev == 0 {
         return false;
     }
-    let new = ring::leave(&mut area[at..], tail, prev, p);
+    let new = ring::leave(&mut area[base..], tail, prev, p);
+    // mostly the tail stays, and a read of it need not wait for a write
+    if new == tail {
+        return true;
+    }
     area[i] = ring::with_next(word, new);
     true
 }
 
 // p, which stands in no ring, joins the one whose tail stands at i.
-fn put_in(area: &mut [u16], shape: Shape, i: usize, p: u16)
-    requires { ⌜ Joins shape (now area) i p ⌝ }
-    ensures { λ _. ⌜ ((j : Joins shape (now (area .entry)) i p) → Relinked shape (now (area .entry)) (now (area .exit)) (j .parts) (j .queues) (j .queue) (insert (ranks (j .parts)) p (j .queues (j .queue)))) ⌝ }
+fn put_in(area: &mut [u16], base: usize, i: usize, p: u16)
+    requires { ⌜ ((n : Shape) × (base ≡ recordsAt n) × Joins n (now area) i p) ⌝ }
+    ensures { λ _. ⌜ ((n : Shape) → base ≡ recordsAt n → (j : Joins n (now (area .entry)) i p) → Relinked n (now (area .entry)) (now (area .exit)) (j .parts) (j .queues) (j .queue) (insert (ranks (j .parts)) p (j .queues (j .queue)))) ⌝ }
 {
-    let at = area::records_at(shape);
     let word = area[i];
-    let tail = ring::join(&mut area[at..], ring::next_field(word), p);
+    let tail = ring::join(&mut area[base..], ring::next_field(word), p);
     area[i] = ring::with_next(word, tail);
 }
 
-// p moves from the queue whose tail stands at `from`, if it stands there, to the one whose tail stands at `to`, with the priority v; waits is 1 if that is a condition. Whether it does.
-pub fn move_process(
-    area: &mut [u16],
-    shape: Shape,
-    from: usize,
-    to: usize,
-    p: u16,
-    v: u16,
-    waits: u16,
-) -> bool
-    requires { ⌜ Moves shape (now area) from to p waits ⌝ }
-    requires { ⌜ v < 8 ⌝ }
-    ensures { λ r. ⌜ ((m : Moves shape (now (area .entry)) from to p waits) → Tried (m .stood) r (now (area .entry)) (now (area .exit)) (Becomes shape (now (area .entry)) (now (area .exit)) (sent p (m .to) (with (priority p) v (m .state))))) ⌝ }
+// p moves from the queue whose tail stands at `from`, if it stands there, to the one whose tail stands at `to`; waits is 1 if that is a condition. Whether it does.
+pub fn send(area: &mut [u16], base: usize, from: usize, to: usize, p: u16, waits: u16) -> bool
+    requires { ⌜ ((n : Shape) × (base ≡ recordsAt n) × Moves n (now area) from to p waits) ⌝ }
+    ensures { λ r. ⌜ ((n : Shape) → base ≡ recordsAt n → (m : Moves n (now (area .entry)) from to p waits) → Tried (m .stood) r (now (area .entry)) (now (area .exit)) (Becomes n (now (area .entry)) (now (area .exit)) (sent p (m .to) (m .state)))) ⌝ }
 {
-    if !take_out(area, shape, from, p) {
+    if !take_out(area, base, from, p) {
         return false;
     }
-    area::set_rank(area, shape, p, v, waits);
-    put_in(area, shape, to, p);
+    area::set_waiting(&mut area[base..], p, waits);
+    put_in(area, base, to, p);
     true
 }
 
-// The same with the priority that p has.
-pub fn send(area: &mut [u16], shape: Shape, from: usize, to: usize, p: u16, waits: u16) -> bool
-    requires { ⌜ Moves shape (now area) from to p waits ⌝ }
-    ensures { λ r. ⌜ ((m : Moves shape (now (area .entry)) from to p waits) → Tried (m .stood) r (now (area .entry)) (now (area .exit)) (Becomes shape (now (area .entry)) (now (area .exit)) (sent p (m .to) (m .state)))) ⌝ }
+// p, which stands in ready, takes the priority v, and its place in ready by it.
+pub fn rank(area: &mut [u16], base: usize, p: u16, v: u16)
+    requires { ⌜ ((n : Shape) × (s : State model) × (base ≡ recordsAt n) × Holds n (now area) s × (member p (s .queues ready) ≡ true)) ⌝ }
+    requires { ⌜ v < 8 ⌝ }
+    ensures { λ _. ⌜ ((n : Shape) (s : State model) → base ≡ recordsAt n → Holds n (now (area .entry)) s → member p (s .queues ready) ≡ true → Becomes n (now (area .entry)) (now (area .exit)) (sent p ready (with (priority p) v s))) ⌝ }
 {
-    let v = area::get(area, places::priority(shape, p));
-    move_process(area, shape, from, to, p, v, waits)
+    let at = area::ready_at();
+    take_out(area, base, at, p);
+    area::set_rank(&mut area[base..], p, v);
+    put_in(area, base, at, p);
 }
 
 // ---- dispatch
@@ -128,7 +125,7 @@ fn dispatch(area: &mut [u16], shape: Shape) -> Dispatched
 {
     let at = area::ready_at();
     let first = first_in(area, shape, at);
-    area::put(area, places::running(), first);
+    area::set_running(area, first);
     if first == 0 {
         return Dispatched {
             running: 0,

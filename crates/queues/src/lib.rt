@@ -59,7 +59,8 @@ pub fn requeue(
     }
     let from = area::park_at(source);
     let to = area::park_at(destination);
-    if !moves::send(area, shape, from, to, p, 0) {
+    let base = area::records_at(shape);
+    if !moves::send(area, base, from, to, p, 0) {
         return answers::refusal(10);
     }
     answers::finish(area, shape, 0, arrives(source, destination))

@@ -23,7 +23,7 @@ pub fn set_priority(area: &mut [u16], shape: Shape, priority: Priority) -> Answe
     if layout::HIGHEST < v {
         return answers::refusal(4);
     }
-    let at = area::ready_at();
-    moves::move_process(area, shape, at, at, running, v, 0);
+    let base = area::records_at(shape);
+    moves::rank(area, base, running, v);
     answers::finish(area, shape, 0, 0)
 }

@@ -18,10 +18,6 @@ use Rattle.ring.proofs.Moves.{leader-some}
 -- ---- a change of the next fields of some of zs
 
 module _ {r r′ zs : List ℕ} (K : Kept r r′ zs) where
-  pub kept-priority : (q : ℕ) → priority r′ q ≡ priority r q
-  unfolding priority
-  kept-priority q = K .high (slot q)
-
   pub kept-next : (q : ℕ) → 1 ≤ q → member q zs ≡ false → next r′ q ≡ next r q
   unfolding next
   kept-next q b m = ap (λ (w : ℕ). w / 8 % 1024) (K .links q b m)

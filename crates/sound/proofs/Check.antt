@@ -13,12 +13,13 @@ use Rattle.ring.specs.Link as links
 use Rattle.area.specs.Reading.{shapeOf}
 use Rattle.area.specs.Rings.{records}
 use Rattle.area.specs.Sound.{Sound}
+use Rattle.area.proofs.Records.{part-lent}
 use Rattle.heads.specs.First.{Decides, Counted, Runs}
 use Rattle.members.specs.Walk.{Met, Told}
 use Rattle.members.proofs.Marks.{clear, table-clear}
 use Rattle.members.proofs.Chains.{Words, Member, all-member}
 use Rattle.sound.specs.Passed.{then}
-use Rattle.sound.proofs.Queues.{kindOf, holderWord, visits, queuesOf, visits-append}
+use Rattle.sound.proofs.Queues.{kindOf, holderWord, visits, queuesOf, visits-append, from}
 use Rattle.sound.proofs.Lists.{every, every-in, in-every, in-all, all-in, full-length, length-full}
 use Rattle.sound.proofs.Visits.{reading, total, Visited, AllVisited, led, visits-read, visits-full}
 use Rattle.sound.proofs.Whole.{whole-sound}
@@ -35,8 +36,15 @@ decides-no true d e = absurd (false≢true e)
 decides-no false d e = d
 
 -- a refusal of what is not so
-pub refuses : {A : Type 0} → (A → ⊥) → (false ≡ true → A) × (A → false ≡ true)
+refuses : {A : Type 0} → (A → ⊥) → (false ≡ true → A) × (A → false ≡ true)
 refuses n = ((λ e. absurd (false≢true e)), (λ a. absurd (n a)))
+
+-- an answer about the words from 0 on, lent, is one about all of them; and a refusal is one
+pub lent-answers : (ws : List ℕ) (b : Bool) → (b ≡ true → Sound (from ws 0)) × (Sound (from ws 0) → b ≡ true) → (b ≡ true → Sound ws) × (Sound ws → b ≡ true)
+lent-answers ws b h = rw (part-lent 0 ws) at h
+
+pub lent-refuses : (ws : List ℕ) → (Sound (from ws 0) → ⊥) → (false ≡ true → Sound ws) × (Sound ws → false ≡ true)
+lent-refuses ws n = lent-answers ws false (refuses n)
 
 told-broken : (P c : ℕ) (ms : List ℕ) (out : Option (List ℕ)) → P ≤ 1023 → Told P c ms out → c ≡ 1024 → out ≡ none
 told-broken P c ms none l t e = refl

@@ -24,7 +24,9 @@ use Rattle.area.specs.Rings.{records}
 use Rattle.area.proofs.Records.{part-lent}
 use Rattle.heads.specs.First.{Decides, Counted, Led, Runs}
 use Rattle.heads.specs.Heads.{heading, headAt, holderIn}
+use Rattle.heads.proofs.Steps.{head-empty, head-empty-held}
 use Rattle.members.specs.Walk.{ringed, Met, Told}
+use Rattle.members.proofs.Steps.{ring-empty}
 use Rattle.members.proofs.Chains.{Words}
 use Rattle.members.proofs.Walks.{told-none, told-some}
 use Rattle.sound.specs.Passed.{queued, then, passed}
@@ -65,32 +67,40 @@ module _ (hs rs : List ℕ) (P k : ℕ) where
   queued-is a w v js e d = rw (e, d)
 
   module _ (i a w v : ℕ) (e : a ≡ headAt k i) (d : w ≡ getD hs a 0) (f : v ≡ holderIn hs k a) (n : ℕ) (below : i < n)
-      (ms : List ℕ) (m : ℕ) (js₀ : List ℕ) (p : Passed hs rs P k i ms m js₀) (ok : Bool) (is-ok : ok ≡ heading P k w v) where
+      (ms : List ℕ) (m : ℕ) (js₀ : List ℕ) (p : Passed hs rs P k i ms m js₀) where
     here : passed hs rs P k (i + 1) js₀ ≡ cond (heading P k w v) (ringed rs P k (v / 8) (w / 8) (p .js)) none
     here = passed-more i js₀ (p .js) (p .so) ∙ rw (← e) (queued-is a w v (p .js) d f)
 
-    pub passed-odd : (ms′ : List ℕ) → not ok ≡ true → Told P 1024 ms′ (passed hs rs P k n js₀)
-    passed-odd ms′ x =
-        let no : heading P k w v ≡ false = sym is-ok ∙ not-true ok x in
-        told-none P ms′ _ (passed-stops (i + 1) n js₀ (omega arith) (here ∙ rw no))
+    -- an empty queue
+    pub passed-empty : w ≡ 0 → v ≡ 0 → Passed hs rs P k (i + 1) ms m js₀
+    passed-empty z o = record { js = p .js; met = p .met; so = here ∙ rw (← head-empty P k w v z o) (ring-empty rs P k (v / 8) (w / 8) (p .js) (omega arith)) }
 
-    module _ (x : not ok ≡ false) (c : ℕ) (ms′ : List ℕ) (told : (js : List ℕ) → Met P ms js m → Told P c ms′ (ringed rs P k (v / 8) (w / 8) js)) where
-      after : passed hs rs P k (i + 1) js₀ ≡ ringed rs P k (v / 8) (w / 8) (p .js)
-      after = let yes : heading P k w v ≡ true = sym is-ok ∙ not-false ok x in here ∙ rw yes
+    pub passed-held : (ms′ : List ℕ) → w ≡ 0 → (v ≡ 0 → ⊥) → Told P 1024 ms′ (passed hs rs P k n js₀)
+    passed-held ms′ z o = told-none P ms′ _ (passed-stops (i + 1) n js₀ (omega arith) (here ∙ rw (← head-empty-held P k w v z o)))
 
-      pub passed-broken : (ms″ : List ℕ) → P < 1024 → c ≡ 1024 → Told P 1024 ms″ (passed hs rs P k n js₀)
-      passed-broken ms″ s z = go (ringed rs P k (v / 8) (w / 8) (p .js)) after (told (p .js) (p .met))
-        where
-          go : (out : Option (List ℕ)) → passed hs rs P k (i + 1) js₀ ≡ out → Told P c ms′ out → Told P 1024 ms″ (passed hs rs P k n js₀)
-          go none q t = told-none P ms″ _ (passed-stops (i + 1) n js₀ (omega arith) q)
-          go (some js) q t = absurd (omega arith)
+    module _ (ok : Bool) (is-ok : ok ≡ heading P k w v) where
+      pub passed-odd : (ms′ : List ℕ) → not ok ≡ true → Told P 1024 ms′ (passed hs rs P k n js₀)
+      passed-odd ms′ x =
+          let no : heading P k w v ≡ false = sym is-ok ∙ not-true ok x in
+          told-none P ms′ _ (passed-stops (i + 1) n js₀ (omega arith) (here ∙ rw no))
 
-      pub passed-on : (c ≡ 1024 → ⊥) → Passed hs rs P k (i + 1) ms′ c js₀
-      passed-on z = go (ringed rs P k (v / 8) (w / 8) (p .js)) after (told (p .js) (p .met))
-        where
-          go : (out : Option (List ℕ)) → passed hs rs P k (i + 1) js₀ ≡ out → Told P c ms′ out → Passed hs rs P k (i + 1) ms′ c js₀
-          go none q t = absurd (z t)
-          go (some js) q t = record { js = js; met = t; so = q }
+      module _ (x : not ok ≡ false) (c : ℕ) (ms′ : List ℕ) (told : (js : List ℕ) → Met P ms js m → Told P c ms′ (ringed rs P k (v / 8) (w / 8) js)) where
+        after : passed hs rs P k (i + 1) js₀ ≡ ringed rs P k (v / 8) (w / 8) (p .js)
+        after = let yes : heading P k w v ≡ true = sym is-ok ∙ not-false ok x in here ∙ rw yes
+
+        pub passed-broken : (ms″ : List ℕ) → P < 1024 → c ≡ 1024 → Told P 1024 ms″ (passed hs rs P k n js₀)
+        passed-broken ms″ s z = go (ringed rs P k (v / 8) (w / 8) (p .js)) after (told (p .js) (p .met))
+          where
+            go : (out : Option (List ℕ)) → passed hs rs P k (i + 1) js₀ ≡ out → Told P c ms′ out → Told P 1024 ms″ (passed hs rs P k n js₀)
+            go none q t = told-none P ms″ _ (passed-stops (i + 1) n js₀ (omega arith) q)
+            go (some js) q t = absurd (omega arith)
+
+        pub passed-on : (c ≡ 1024 → ⊥) → Passed hs rs P k (i + 1) ms′ c js₀
+        passed-on z = go (ringed rs P k (v / 8) (w / 8) (p .js)) after (told (p .js) (p .met))
+          where
+            go : (out : Option (List ℕ)) → passed hs rs P k (i + 1) js₀ ≡ out → Told P c ms′ out → Passed hs rs P k (i + 1) ms′ c js₀
+            go none q t = absurd (z t)
+            go (some js) q t = record { js = js; met = t; so = q }
 
 -- ---- the queues of an area
 
@@ -218,8 +228,12 @@ pub counted-long : {n : Shape} {ws : List ℕ} → n ≡ shapeOf ws → Counted 
 counted-long e c = rw e (c .long)
 
 -- the words from a on, lent
-abbrev from : List ℕ → ℕ → List ℕ
+abbrev pub from : List ℕ → ℕ → List ℕ
 from ws a = midOf a (length ws - a) ws
+
+-- from 0 on they are all
+pub lent-small : (ws : List ℕ) → Words ws → Words (from ws 0)
+lent-small ws h = rw (part-lent 0 ws) h
 
 -- by the counts n that the words say, and the address r of the records
 module _ (ws : List ℕ) {n : Shape} (e : n ≡ shapeOf ws) {r : ℕ} (there : r ≡ recordsAt n) where

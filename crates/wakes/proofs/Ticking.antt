@@ -1,20 +1,19 @@
 -- Tick: those whose timer rings leave their conditions, and then wake in process order. Who rings waits, so each condition is without them when
 -- it is swept, no other queue has one of them, and they are those of the rule. Assumes nothing.
-use Prim.Native.Nat.{ℕ, zero, suc, _+_, _-_, _%_, _≤_}
+use Prim.Native.Nat.{ℕ, zero, suc, _+_, _-_, _%_, _≤_, _<_}
+use native.Mathlib.Decide.{ℕ-discrete}
 use native.Mathlib.Omega.{arith}
-use borrow.Rule.Slice.PartMut.{midOf}
 use native.Mathlib.Numerals.{add-one}
 use mathlib.Core.Path.{_≡_, refl, sym, ap, _∙_, subst}
 use mathlib.Core.Bool.{Bool, true, false, not, _&&_, true≢false}
 use mathlib.Core.Logic.{_≢_}
 use mathlib.Core.List.{List, [], _∷_, _++_}
 use lib.Dec.{eqb}
-use lib.ListN.{length, take, take-append-drop}
-use lib.Seq.{length-take-le}
+use lib.ListN.{length, getD}
 use Rattle.model.specs.declared.Shape.{Shape}
 use Rattle.model.specs.declared.Answer.{Answer}
 use Rattle.model.specs.declared.Call.the-variants.{Tick}
-use Rattle.model.specs.Queue.{Queue, inside, upTo, isCondition, member, count, filter, toReady}
+use Rattle.model.specs.Queue.{Queue, inside, exists, upTo, isCondition, member, count, filter, toReady}
 use Rattle.model.specs.Queue.Queue.{ready, park, lock, condition}
 use Rattle.model.specs.Field.{Fields, put, some}
 use Rattle.model.specs.Field.Field.{clock, timer}
@@ -25,16 +24,16 @@ use Rattle.model.proofs.Tests.{holds, fails, SameCase, same-case, EqCase, eqb-c
 use Rattle.model.proofs.Lists.{filter-member, member-filter, upTo-member, member-upTo}
 use Rattle.model.proofs.Loops.{due-moved}
 use Rattle.model.proofs.Many.{without, filter-all, filter-none, filter-agree, filter-once, upTo-once}
-use Rattle.area.specs.Layout.{recordsAt, Image}
-use Rattle.area.specs.State.{laid}
+use Rattle.area.specs.Layout.{conditionsAt, recordsAt, at}
+use Rattle.area.specs.Layout.Slot.{Tail}
 use Rattle.area.specs.Holds.{Holds, Becomes, with, Gives}
 use Rattle.area.specs.Loose.{Loose, swept, staying, Crowd, Woken, ringing}
 use Rattle.area.specs.Calls.{Does}
 use Rattle.area.proofs.Puts.{becomes-none}
 use Rattle.area.proofs.Rings.{member-inside, queue-none}
-use Rattle.moves.proofs.Relinks.{lent}
 use Rattle.moves.proofs.Loose.{waits-in}
 use Rattle.moves.proofs.Outcomes.{accepts}
+use Rattle.crowds.proofs.Leaving.{loose-empty}
 use Rattle.wakes.proofs.Waking.{woken, woken-becomes}
 
 -- ---- the conditions, swept one after the other
@@ -83,6 +82,28 @@ sweep-next qs time k L = rw (add-one k) (rw (add-one k) at L)
 
 pub sweep-end : {n : Shape} {old new : List ℕ} {f : Fields} (qs : Queue → List ℕ) (time : ℕ) {k m : ℕ} → k ≡ m → Loose n old new f (staying f time k qs) → Loose n old new f (staying f time m qs)
 sweep-end {n} {old} {new} {f} qs time e L = subst (λ i. Loose n old new f (staying f time i qs)) e L
+
+-- the condition whose word stands at i
+pub condition-here : (n : Shape) (i : ℕ) → conditionsAt n ≤ i → i < recordsAt n → (exists n (condition (i - conditionsAt n + 1)) ≡ true) × (i ≡ at n (Tail (condition (i - conditionsAt n + 1))))
+condition-here n i a b = (bounds-inside (n .conditions) (i - conditionsAt n + 1) (omega arith) (omega arith), omega arith)
+
+-- ---- conditions that nobody waits on
+
+-- one word more that is below 8
+pub low-next : (ws : List ℕ) (from i : ℕ) → ((k : ℕ) → from ≤ k → k < i → getD ws k 0 < 8) → getD ws i 0 < 8 → (k : ℕ) → from ≤ k → k < i + 1 → getD ws k 0 < 8
+low-next ws from i low here k a b = elim (ℕ-discrete k i) [ yes e ↦ rw e here | no e ↦ low k a (omega arith) ]
+
+-- conditions 1 to k are swept, and the words of those behind, to where j stands, are below 8: they count as swept too
+pub sweep-skips : {n : Shape} {old new : List ℕ} {f : Fields} (qs : Queue → List ℕ) (time k from j : ℕ) → from ≡ conditionsAt n + k → from ≤ j → j ≤ recordsAt n → ((i : ℕ) → from ≤ i → i < j → getD new i 0 < 8)
+    → Loose n old new f (staying f time k qs) → Loose n old new f (staying f time (j - conditionsAt n) qs)
+sweep-skips {n} {old} {new} {f} qs time k from j e a b low L = go (j - conditionsAt n) (omega arith) (omega arith)
+  where
+    go : (m : ℕ) → k ≤ m → m ≤ j - conditionsAt n → Loose n old new f (staying f time m qs)
+    go zero h o = let e : k ≡ 0 = omega arith in sweep-end qs time e L
+    go (suc m) h o = elim (ℕ-discrete k (suc m)) [
+      | yes d ↦ sweep-end qs time d L
+      | no d ↦ loose-empty (go m (omega arith) (omega arith)) (condition (suc m)) (bounds-inside (n .conditions) (suc m) (omega arith) (omega arith)) refl time (low (at n (Tail (condition (suc m)))) (omega arith) (omega arith))
+    ]
 
 -- ---- those who ring
 
@@ -192,20 +213,13 @@ none-at-zero n f {now} z = filter-none (λ p. some (f (timer p)) && eqb (f (time
 
 -- ---- whether somebody rings
 
--- the area is its front and the records, as they are lent
-module _ {n : Shape} {ws : List ℕ} {s : State model} (H : Holds n ws s) {a : ℕ} (at-records : a ≡ recordsAt n) where
-  pub front-fits : length (take (recordsAt n) ws) ≡ recordsAt n
-  front-fits = length-take-le (recordsAt n) ws (omega (arith, H .image .long))
-
-  pub lent-image : Image n (take (recordsAt n) ws ++ midOf a (length ws - a) ws) (laid n s)
-  lent-image = rw (lent n ws at-records, take-append-drop (recordsAt n) ws) (H .image)
-
--- of 1 to k nobody does, and not the next
-pub none-next : (f : Fields) (time k x : ℕ) → x ≡ f (timer (k + 1)) → x ≢ time → ringing f time k ≡ [] → ringing f time (k + 1) ≡ []
-none-next f time k x reads h e = rw (add-one k) (skips (upTo k) ∙ e)
+-- of those below p nobody does, and not p
+pub none-next : (f : Fields) (time p x : ℕ) → 1 ≤ p → x ≡ f (timer p) → x ≢ time → ringing f time (p - 1) ≡ [] → ringing f time (p + 1 - 1) ≡ []
+none-next f time zero x some reads h e = absurd (omega arith)
+none-next f time (suc k) x some reads h e = rw (let a : suc k + 1 - 1 ≡ suc k = omega arith in a) (skips (upTo k) ∙ rw (let a : suc k - 1 ≡ k = omega arith in a) at e)
   where
     own : eqb (f (timer (suc k))) time ≡ false
-    own = rw (← (rw (add-one k) at reads)) (eqb-no x time h)
+    own = rw (← reads) (eqb-no x time h)
 
     skips : (xs : List ℕ) → filter (λ y. eqb (f (timer y)) time) (xs ++ (suc k ∷ [])) ≡ filter (λ y. eqb (f (timer y)) time) xs
     skips [] = rw own

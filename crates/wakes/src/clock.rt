@@ -6,7 +6,8 @@ use moves::answers;
 ghost use mathlib.Core.Path.{_≡_};
 ghost use mathlib.Core.Bool.{true};
 ghost use mathlib.Core.List.{[]};
-ghost use lib.ListN.{length};
+ghost use Prim.Native.Nat.{ℕ, _≤_, _<_};
+ghost use lib.ListN.{length, getD};
 ghost use Rattle.model.specs.declared.Call.the-variants.{Tick};
 ghost use Rattle.model.specs.Queue.{toReady};
 ghost use Rattle.model.specs.Rules.{calm, due};
@@ -23,14 +24,26 @@ fn nobody_due(area: &[u16], shape: Shape, time: u16) -> bool
 {
     let at = area::records_at(shape);
     let processes = shape.processes;
-    let mut p: u16 = 0;
-    while p < processes {
-        p += 1;
+    let mut p: u16 = 1;
+    while p <= processes {
         if area::timer_in(&area[at..], p) == time {
             return false;
         }
+        p += 1;
     }
     true
+}
+
+// Where the first word from `from` on stands that says that somebody waits, `end` if none before it does. Most conditions are empty.
+fn next_waited(area: &[u16], from: usize, end: usize) -> usize
+    requires { ⌜ (from ≤ end) × (end ≤ length (now area)) ⌝ }
+    ensures { λ r. ⌜ (from ≤ r) × (r ≤ end) × ((k : ℕ) → from ≤ k → k < r → getD (now (area .entry)) k 0 < 8) ⌝ }
+{
+    let mut i = from;
+    while i < end && area[i] < ring::NUMBER {
+        i += 1;
+    }
+    i
 }
 
 // Those whose timer is at this time leave their conditions.
@@ -38,12 +51,11 @@ fn sweep_all(area: &mut [u16], shape: Shape, time: u16)
     requires { ⌜ Held shape (now area) ⌝ }
     ensures { λ _. ⌜ ((s : State model) → Holds shape (now (area .entry)) s → Loose shape (now (area .entry)) (now (area .exit)) (s .fields) (staying (s .fields) time (shape .conditions) (s .queues))) ⌝ }
 {
-    let conditions = shape.conditions;
-    let mut c: u16 = 0;
-    while c < conditions {
-        c += 1;
-        let from = area::condition_at(shape, c);
-        crowds::sweep(area, shape, from, time);
+    let end = area::records_at(shape);
+    let mut i = next_waited(area, area::conditions_at(shape), end);
+    while i < end {
+        crowds::sweep(area, shape, i, time);
+        i = next_waited(area, i + 1, end);
     }
 }
 

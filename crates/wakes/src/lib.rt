@@ -34,7 +34,8 @@ fn wake_first(area: &mut [u16], shape: Shape, condition: u16) -> u16
         return 0;
     }
     let to = area::ready_at();
-    moves::send(area, shape, from, to, first, 0);
+    let base = area::records_at(shape);
+    moves::send(area, base, from, to, first, 0);
     area::put(area, places::timer(shape, first), 0);
     1
 }

@@ -1,9 +1,11 @@
--- `area::set_awake` meets its contract: both words stand in the records, and a part of each is written. Assumes nothing.
+-- `area::set_awake` meets its contract: the timer is written, and then the waiting bit. Assumes nothing.
+use denote.Ref.{now}
 use Prim.Native.Nat.{_+_, _-_, _*_}
 use native.Mathlib.Omega.{arith}
-use mathlib.Core.Path.{refl}
+use mathlib.Core.Path.{_∙_}
 use lib.ListN.{length-set}
-use Rattle.area.proofs.Lent.{lent-within, awake-stored}
+use Rattle.area.proofs.Stores.{stored-then}
+use Rattle.area.proofs.Lent.{lent-within, lent-calm}
 use borrow.Author.Needs.{needs}
 use Rattle.area.proofs.set_awake.Statement.{statement}
 use Rattle.area.proofs.set_awake.Tie as tie
@@ -14,8 +16,8 @@ sub-at c = let h = c .before .pre in omega (arith, lent-within (h .1) _ (h .3) (
 mul-at : tie.Need-mul-at
 mul-at c = search needs
 
-add-records : tie.Need-add-records
-add-records c = search needs
+add-at : tie.Need-add-at
+add-at c = search needs
 
 mul-records : tie.Need-mul-records
 mul-records c = search needs
@@ -23,32 +25,16 @@ mul-records c = search needs
 slice-write-records : tie.Need-slice-write-records
 slice-write-records c = let h = c .before .pre in omega (arith, lent-within (h .1) _ (h .3) (h .4) (c .before .args .p) (h .5))
 
-add-flags : tie.Need-add-flags
-add-flags c = search needs
-
-mul-flags : tie.Need-mul-flags
-mul-flags c = search needs
-
-slice-read-flags : tie.Need-slice-read-flags
-slice-read-flags c = let h = c .before .before .pre in simp length-set (omega (arith, lent-within (h .1) _ (h .3) (h .4) (c .before .before .args .p) (h .5)))
-
-with-part-requires : tie.Need-with-part-requires
-with-part-requires c κs = (omega arith, omega arith, (1, refl), omega (arith, c .slice-known2 .given ((c .before .before .args .p - 1) * 3 + 1)))
-
-add-records-2 : tie.Need-add-records-2
-add-records-2 c = search needs
-
-mul-records-2 : tie.Need-mul-records-2
-mul-records-2 c = search needs
-
-slice-write-records-2 : tie.Need-slice-write-records-2
-slice-write-records-2 c = let h = c .before .before .before .pre in simp length-set (omega (arith, lent-within (h .1) _ (h .3) (h .4) (c .before .before .before .args .p) (h .5)))
+set-waiting-requires : tie.Need-set-waiting-requires
+set-waiting-requires c κs = let h = c .before .before .pre in ((h .0, h .1, _, h .3, lent-calm (h .1) _ (h .3) (h .4) (h .5) .image, h .5), omega arith)
 
 same-length : tie.Need-same-length
-same-length c = search needs
+same-length c = let l = c .before .before .before .before .before .args .records in let e = c .before .records .given in e ∙ length-set (now l) ((c .before .before .before .before .before .args .p - 1) * 3 + 2) 0
 
 returns : tie.Need-returns
-returns c n front t fits im h = awake-stored front _ _ fits im h (c .with-part .ensures)
+returns c n front t fits im h =
+    let a = lent-calm front _ fits im h in
+    stored-then a (c .before .before .set-waiting .ensures n front _ fits (a .image) h)
 
 pub set-awake-spec : {M : Type 1} → statement M
 set-awake-spec =
@@ -56,15 +42,9 @@ set-awake-spec =
     (tie.spec
     sub-at
     mul-at
-    add-records
+    add-at
     mul-records
     slice-write-records
-    add-flags
-    mul-flags
-    slice-read-flags
-    with-part-requires
-    add-records-2
-    mul-records-2
-    slice-write-records-2
+    set-waiting-requires
     same-length
     returns)

@@ -1,32 +1,29 @@
 -- `heads::in_order` meets its contract: one test after the other, as `heading` has them. Assumes nothing.
 use native.Mathlib.Omega.{arith}
-use Rattle.heads.proofs.Steps.{head-empty, head-tail, head-holder, head-unnamed, head-held, head-wakeup, head-plain}
+use Rattle.heads.proofs.Steps.{head-tail, head-holder, head-unnamed, head-held, head-wakeup, head-plain}
 use Rattle.heads.proofs.in_order.Statement.{statement}
 use Rattle.heads.proofs.in_order.Tie as tie
 
 returns : tie.Need-returns
-returns c = head-empty _ _ _ _ (c .if1 .taken)
+returns c = head-tail _ _ _ _ (c .if1 .taken)
 
 returns-2 : tie.Need-returns-2
-returns-2 c = head-tail _ _ _ _ (c .if2 .taken)
+returns-2 c = head-holder _ _ _ _ (c .before .if1 .left) (c .if2 .taken)
 
 returns-3 : tie.Need-returns-3
-returns-3 c = head-holder _ _ _ _ (c .before .if2 .left) (c .if3 .taken)
+returns-3 c = head-unnamed _ _ _ _ (c .before .before .if1 .left) (c .before .if2 .left) (λ z. c .if3 .taken (omega arith))
 
 returns-4 : tie.Need-returns-4
-returns-4 c = head-unnamed _ _ _ _ (c .before .before .if2 .left) (c .before .if3 .left) (λ z. c .if4 .taken (omega arith))
+returns-4 c = head-held _ _ _ _ (c .before .before .before .if1 .left) (c .before .before .if2 .left) (c .before .if3 .left) (c .if4 .taken)
 
 returns-5 : tie.Need-returns-5
-returns-5 c = head-held _ _ _ _ (c .before .before .before .if2 .left) (c .before .before .if3 .left) (c .before .if4 .left) (c .if5 .taken)
+returns-5 c = head-wakeup _ _ _ _ (c .before .before .before .before .before .if1 .left) (c .before .before .before .before .if2 .left) (c .before .before .before .if3 .left) (c .before .before .if4 .left) (c .before .if5 .taken) (c .if6 .taken)
 
 returns-6 : tie.Need-returns-6
-returns-6 c = head-wakeup _ _ _ _ (c .before .before .before .before .before .if2 .left) (c .before .before .before .before .if3 .left) (c .before .before .before .if4 .left) (c .before .before .if5 .left) (c .before .if6 .taken) (c .if7 .taken)
+returns-6 c = head-plain _ _ _ _ (c .before .before .before .before .before .if1 .left) (c .before .before .before .before .if2 .left) (c .before .before .before .if3 .left) (c .before .before .if4 .left) (λ a b. c .if6 .left b)
 
 returns-7 : tie.Need-returns-7
-returns-7 c = head-plain _ _ _ _ (c .before .before .before .before .before .if2 .left) (c .before .before .before .before .if3 .left) (c .before .before .before .if4 .left) (c .before .before .if5 .left) (λ a b. c .if7 .left b)
-
-returns-8 : tie.Need-returns-8
-returns-8 c = head-plain _ _ _ _ (c .before .before .before .before .if2 .left) (c .before .before .before .if3 .left) (c .before .before .if4 .left) (c .before .if5 .left) (λ a b. c .if6 .left a)
+returns-7 c = head-plain _ _ _ _ (c .before .before .before .before .if1 .left) (c .before .before .before .if2 .left) (c .before .before .if3 .left) (c .before .if4 .left) (λ a b. c .if5 .left a)
 
 pub in-order-spec : {M : Type 1} → statement M
-in-order-spec = tie.close (tie.spec returns returns-2 returns-3 returns-4 returns-5 returns-6 returns-7 returns-8)
+in-order-spec = tie.close (tie.spec returns returns-2 returns-3 returns-4 returns-5 returns-6 returns-7)

@@ -38,34 +38,37 @@ returns c s H =
 ready-at-requires : tie.Need-ready-at-requires
 ready-at-requires c κs = search needs
 
+records-at-requires : tie.Need-records-at-requires
+records-at-requires c κs = search needs
+
 send-requires : tie.Need-send-requires
 send-requires c κs =
-    let args = c .before .before .before .before .before .before .before .before .before .before .before .args in
-    let pre = c .before .before .before .before .before .before .before .before .before .before .before .pre in
-    let lock-at = c .before .before .before .before .before .before .before .before .before .lock-at in
-    let first-in = c .before .before .before .before .before .before .before .first-in in
-    let set-holder = c .before .before .before .before .before .set-holder in
-    let if1 = c .before .before .if1 in
+    let args = c .before .before .before .before .before .before .before .before .before .before .before .before .args in
+    let pre = c .before .before .before .before .before .before .before .before .before .before .before .before .pre in
+    let lock-at = c .before .before .before .before .before .before .before .before .before .before .lock-at in
+    let first-in = c .before .before .before .before .before .before .before .before .first-in in
+    let set-holder = c .before .before .before .before .before .before .set-holder in
+    let if1 = c .before .before .before .if1 in
     let s = pre .0 .0 in
     let H = pre .0 .1 in
-    going (set-holder .ensures s H .holds) (lock (args .lock)) ready (pre .1) refl (lock-at .ensures) (c .before .ready-at .ensures (args .shape)) (first-stands (s .queues (lock (args .lock))) (first-in .ensures s (lock (args .lock)) H (pre .1) (lock-at .ensures)) (if1 .left)) refl
+    (args .shape, c .before .records-at .ensures, going (set-holder .ensures s H .holds) (lock (args .lock)) ready (pre .1) refl (lock-at .ensures) (c .before .before .ready-at .ensures (args .shape)) (first-stands (s .queues (lock (args .lock))) (first-in .ensures s (lock (args .lock)) H (pre .1) (lock-at .ensures)) (if1 .left)) refl)
 
 same-length-2 : tie.Need-same-length-2
 same-length-2 c = search needs
 
 returns-2 : tie.Need-returns-2
 returns-2 c s H =
-    let args = c .before .before .before .before .before .before .before .before .before .before .before .before .before .before .args in
-    let pre = c .before .before .before .before .before .before .before .before .before .before .before .before .before .before .pre in
-    let lock-at = c .before .before .before .before .before .before .before .before .before .before .before .before .lock-at in
-    let first-in = c .before .before .before .before .before .before .before .before .before .before .first-in in
-    let set-holder = c .before .before .before .before .before .before .before .before .set-holder in
-    let if1 = c .before .before .before .before .before .if1 in
-    let ready-at = c .before .before .before .before .ready-at in
+    let args = c .before .before .before .before .before .before .before .before .before .before .before .before .before .before .before .args in
+    let pre = c .before .before .before .before .before .before .before .before .before .before .before .before .before .before .before .pre in
+    let lock-at = c .before .before .before .before .before .before .before .before .before .before .before .before .before .lock-at in
+    let first-in = c .before .before .before .before .before .before .before .before .before .before .before .first-in in
+    let set-holder = c .before .before .before .before .before .before .before .before .before .set-holder in
+    let if1 = c .before .before .before .before .before .before .if1 in
+    let ready-at = c .before .before .before .before .before .ready-at in
     let send = c .before .before .send in
     let b = set-holder .ensures s H in
     let e = (first-in .ensures s (lock (args .lock)) H (pre .1) (lock-at .ensures)) in
-    release-first H (args .lock) e (if1 .left) (becomes-then b (send .ensures (going (b .holds) (lock (args .lock)) ready (pre .1) refl (lock-at .ensures) (ready-at .ensures (args .shape)) (first-stands (s .queues (lock (args .lock))) e (if1 .left)) refl) .done refl))
+    release-first H (args .lock) e (if1 .left) (becomes-then b (send .ensures (args .shape) (c .before .before .before .before .records-at .ensures) (going (b .holds) (lock (args .lock)) ready (pre .1) refl (lock-at .ensures) (ready-at .ensures (args .shape)) (first-stands (s .queues (lock (args .lock))) e (if1 .left)) refl) .done refl))
 
 pub release-spec : {M : Type 1} → statement M
 release-spec =
@@ -77,6 +80,7 @@ release-spec =
     same-length
     returns
     ready-at-requires
+    records-at-requires
     send-requires
     same-length-2
     returns-2)

@@ -5,14 +5,11 @@ use Rattle.ring.proofs.Rings.{ring-tail-small}
 use Rattle.moves.proofs.put_in.Statement.{statement}
 use Rattle.moves.proofs.put_in.Tie as tie
 
-records-at-requires : tie.Need-records-at-requires
-records-at-requires c κs = search needs
-
 mul-word : tie.Need-mul-word
-mul-word c = let j = c .before .before .pre in let h = tail-below (j .queue) (j .rings) (j .given) (j .here) in search needs
+mul-word c = let j = c .before .pre .2 in let h = tail-below (j .queue) (j .rings) (j .given) (j .here) in search needs
 
 slice-read-word : tie.Need-slice-read-word
-slice-read-word c = let j = c .before .before .before .pre in tail-below (j .queue) (j .rings) (j .given) (j .here)
+slice-read-word c = let j = c .before .before .pre .2 in tail-below (j .queue) (j .rings) (j .given) (j .here)
 
 mul-join : tie.Need-mul-join
 mul-join c = search needs
@@ -31,49 +28,43 @@ next-field-requires c κs = search needs
 
 join-requires : tie.Need-join-requires
 join-requires c κs =
-    let j = c .before .before .before .before .before .pre in
-    let L = lent-join j (c .before .before .before .records-at .ensures) (c .next-field .ensures) in
-    (L .0, (_, L .1, L .2, j .out (j .queue)))
+    let pre = c .before .before .before .before .pre in
+    let L = lent-join (pre .2) (pre .1) (c .next-field .ensures) in
+    (L .0, (_, L .1, L .2, pre .2 .out (pre .2 .queue)))
 
 with-next-requires : tie.Need-with-next-requires
 with-next-requires c κs =
-    let j = c .before .before .before .before .before .before .before .before .pre in
-    let L = lent-join j (c .before .before .before .before .before .before .records-at .ensures) (c .before .before .before .next-field .ensures) in
-    ring-tail-small _ (c .before .before .join .ensures _ (L .1) (L .2) (j .out (j .queue)) .ring)
+    let pre = c .before .before .before .before .before .before .before .pre in
+    let L = lent-join (pre .2) (pre .1) (c .before .before .before .next-field .ensures) in
+    ring-tail-small _ (c .before .before .join .ensures _ (L .1) (L .2) (pre .2 .out (pre .2 .queue)) .ring)
 
 mul-area : tie.Need-mul-area
 mul-area c =
-    let pre = c .before .before .before .before .before .before .before .before .before .pre in
-    let records-at = c .before .before .before .before .before .before .before .records-at in
-    let join = c .before .before .before .join in
-    let j = pre in
-    let h = tail-again (j .queue) (records-at .result) (join .last .0) (j .rings) (j .given) (j .here) (records-at .ensures) in
+    let pre = c .before .before .before .before .before .before .before .before .pre in
+    let j = pre .2 in
+    let h = tail-again (j .queue) (c .before .before .before .before .before .before .before .before .args .base) (c .before .before .before .join .last .0) (j .rings) (j .given) (j .here) (pre .1) in
     search needs
 
 slice-write-area : tie.Need-slice-write-area
 slice-write-area c =
-    let pre = c .before .before .before .before .before .before .before .before .before .pre in
-    let records-at = c .before .before .before .before .before .before .before .records-at in
-    let join = c .before .before .before .join in
-    let j = pre in
-    tail-again (j .queue) (records-at .result) (join .last .0) (j .rings) (j .given) (j .here) (records-at .ensures)
+    let pre = c .before .before .before .before .before .before .before .before .pre in
+    let j = pre .2 in
+    tail-again (j .queue) (c .before .before .before .before .before .before .before .before .args .base) (c .before .before .before .join .last .0) (j .rings) (j .given) (j .here) (pre .1)
 
 same-length : tie.Need-same-length
 same-length c = search needs
 
 returns : tie.Need-returns
-returns c j =
-    let at-records = c .before .before .before .before .before .before .before .records-at .ensures in
+returns c n e j =
     let reads = c .before .before .before .before .next-field .ensures in
     let join = c .before .before .before .join in
-    let L = lent-join j at-records reads in
-    back-join j at-records reads (join .last .0) (join .result) (c .with-next .result) (join .ensures _ (L .1) (L .2) (j .out (j .queue))) (c .with-next .ensures)
+    let L = lent-join j e reads in
+    back-join j e reads (join .last .0) (join .result) (c .with-next .result) (join .ensures _ (L .1) (L .2) (j .out (j .queue))) (c .with-next .ensures)
 
 pub put-in-spec : {M : Type 1} → statement M
 put-in-spec =
     tie.close
     (tie.spec
-    records-at-requires
     mul-word
     slice-read-word
     mul-join

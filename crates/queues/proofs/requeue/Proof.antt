@@ -37,16 +37,19 @@ park-at-requires c κs = search needs
 park-at-requires-2 : tie.Need-park-at-requires-2
 park-at-requires-2 c κs = search needs
 
+records-at-requires : tie.Need-records-at-requires
+records-at-requires c κs = search needs
+
 send-requires : tie.Need-send-requires
 send-requires c κs =
-    let args = c .before .before .before .before .before .before .before .before .before .before .before .args in
-    let pre = c .before .before .before .before .before .before .before .before .before .before .before .pre in
-    let if1 = c .before .before .before .before .before .before .before .before .if1 in
-    let if2 = c .before .before .before .before .before .before .if2 in
-    let if3 = c .before .before .before .before .before .if3 in
-    let if4 = c .before .before .before .if4 in
-    let park-at = c .before .before .park-at in
-    between (args .source) (args .destination) (pre .holds) (if1 .left) (if2 .left) (park-at .ensures (args .shape)) (c .before .park-at2 .ensures (args .shape)) (if3 .left) (if4 .left)
+    let args = c .before .before .before .before .before .before .before .before .before .before .before .before .args in
+    let pre = c .before .before .before .before .before .before .before .before .before .before .before .before .pre in
+    let if1 = c .before .before .before .before .before .before .before .before .before .if1 in
+    let if2 = c .before .before .before .before .before .before .before .if2 in
+    let if3 = c .before .before .before .before .before .before .if3 in
+    let if4 = c .before .before .before .before .if4 in
+    let park-at = c .before .before .before .park-at in
+    (args .shape, c .before .records-at .ensures, between (args .source) (args .destination) (pre .holds) (if1 .left) (if2 .left) (park-at .ensures (args .shape)) (c .before .before .park-at2 .ensures (args .shape)) (if3 .left) (if4 .left))
 
 refusal-requires-5 : tie.Need-refusal-requires-5
 refusal-requires-5 c κs = search needs
@@ -56,15 +59,15 @@ same-length c = search needs
 
 returns-5 : tie.Need-returns-5
 returns-5 c s H v =
-    let args = c .before .before .before .before .before .before .before .before .before .before .before .before .before .before .before .before .args in
-    let if1 = c .before .before .before .before .before .before .before .before .before .before .before .before .before .if1 in
-    let if2 = c .before .before .before .before .before .before .before .before .before .before .before .if2 in
-    let if3 = c .before .before .before .before .before .before .before .before .before .before .if3 in
-    let if4 = c .before .before .before .before .before .before .before .before .if4 in
-    let park-at = c .before .before .before .before .before .before .before .park-at in
-    let park-at2 = c .before .before .before .before .before .before .park-at2 in
+    let args = c .before .before .before .before .before .before .before .before .before .before .before .before .before .before .before .before .before .args in
+    let if1 = c .before .before .before .before .before .before .before .before .before .before .before .before .before .before .if1 in
+    let if2 = c .before .before .before .before .before .before .before .before .before .before .before .before .if2 in
+    let if3 = c .before .before .before .before .before .before .before .before .before .before .before .if3 in
+    let if4 = c .before .before .before .before .before .before .before .before .before .if4 in
+    let park-at = c .before .before .before .before .before .before .before .before .park-at in
+    let park-at2 = c .before .before .before .before .before .before .before .park-at2 in
     let send = c .before .before .before .before .send in
-    let t = send .ensures (between (args .source) (args .destination) H (if1 .left) (if2 .left) (park-at .ensures (args .shape)) (park-at2 .ensures (args .shape)) (if3 .left) (if4 .left)) in
+    let t = send .ensures (args .shape) (c .before .before .before .before .before .before .records-at .ensures) (between (args .source) (args .destination) H (if1 .left) (if2 .left) (park-at .ensures (args .shape)) (park-at2 .ensures (args .shape)) (if3 .left) (if4 .left)) in
     let no = sym (t .told) ∙ not-true (send .result) (c .before .if5 .taken) in
     requeue-absent H _ _ _ (if1 .left) (if2 .left) (if3 .left) (if4 .left) (t .kept no) no (c .refusal5 .ensures)
 
@@ -73,18 +76,18 @@ arrives-requires c κs = search needs
 
 finish-requires : tie.Need-finish-requires
 finish-requires c κs =
-    let args = c .before .before .before .before .before .before .before .before .before .before .before .before .before .before .before .before .before .args in
-    let pre = c .before .before .before .before .before .before .before .before .before .before .before .before .before .before .before .before .before .pre in
-    let if1 = c .before .before .before .before .before .before .before .before .before .before .before .before .before .before .if1 in
-    let if2 = c .before .before .before .before .before .before .before .before .before .before .before .before .if2 in
-    let if3 = c .before .before .before .before .before .before .before .before .before .before .before .if3 in
-    let if4 = c .before .before .before .before .before .before .before .before .before .if4 in
-    let park-at = c .before .before .before .before .before .before .before .before .park-at in
-    let park-at2 = c .before .before .before .before .before .before .before .park-at2 in
+    let args = c .before .before .before .before .before .before .before .before .before .before .before .before .before .before .before .before .before .before .args in
+    let pre = c .before .before .before .before .before .before .before .before .before .before .before .before .before .before .before .before .before .before .pre in
+    let if1 = c .before .before .before .before .before .before .before .before .before .before .before .before .before .before .before .if1 in
+    let if2 = c .before .before .before .before .before .before .before .before .before .before .before .before .before .if2 in
+    let if3 = c .before .before .before .before .before .before .before .before .before .before .before .before .if3 in
+    let if4 = c .before .before .before .before .before .before .before .before .before .before .if4 in
+    let park-at = c .before .before .before .before .before .before .before .before .before .park-at in
+    let park-at2 = c .before .before .before .before .before .before .before .before .park-at2 in
     let send = c .before .before .before .before .before .send in
     let if5 = c .before .before .if5 in
     let H = pre .holds in
-    let t = send .ensures (between (args .source) (args .destination) H (if1 .left) (if2 .left) (park-at .ensures (args .shape)) (park-at2 .ensures (args .shape)) (if3 .left) (if4 .left)) in
+    let t = send .ensures (args .shape) (c .before .before .before .before .before .before .before .records-at .ensures) (between (args .source) (args .destination) H (if1 .left) (if2 .left) (park-at .ensures (args .shape)) (park-at2 .ensures (args .shape)) (if3 .left) (if4 .left)) in
     (_, t .done (sym (t .told) ∙ not-false (send .result) (if5 .left)) .holds)
 
 same-length-2 : tie.Need-same-length-2
@@ -92,18 +95,18 @@ same-length-2 c = search needs
 
 returns-6 : tie.Need-returns-6
 returns-6 c s H v =
-    let args = c .before .before .before .before .before .before .before .before .before .before .before .before .before .before .before .before .before .before .before .before .args in
-    let if1 = c .before .before .before .before .before .before .before .before .before .before .before .before .before .before .before .before .before .if1 in
-    let if2 = c .before .before .before .before .before .before .before .before .before .before .before .before .before .before .before .if2 in
-    let if3 = c .before .before .before .before .before .before .before .before .before .before .before .before .before .before .if3 in
-    let if4 = c .before .before .before .before .before .before .before .before .before .before .before .before .if4 in
-    let park-at = c .before .before .before .before .before .before .before .before .before .before .before .park-at in
-    let park-at2 = c .before .before .before .before .before .before .before .before .before .before .park-at2 in
+    let args = c .before .before .before .before .before .before .before .before .before .before .before .before .before .before .before .before .before .before .before .before .before .args in
+    let if1 = c .before .before .before .before .before .before .before .before .before .before .before .before .before .before .before .before .before .before .if1 in
+    let if2 = c .before .before .before .before .before .before .before .before .before .before .before .before .before .before .before .before .if2 in
+    let if3 = c .before .before .before .before .before .before .before .before .before .before .before .before .before .before .before .if3 in
+    let if4 = c .before .before .before .before .before .before .before .before .before .before .before .before .before .if4 in
+    let park-at = c .before .before .before .before .before .before .before .before .before .before .before .before .park-at in
+    let park-at2 = c .before .before .before .before .before .before .before .before .before .before .before .park-at2 in
     let send = c .before .before .before .before .before .before .before .before .send in
     let if5 = c .before .before .before .before .before .if5 in
     let arrives = c .before .before .before .arrives in
     let finish = c .before .before .finish in
-    let t = send .ensures (between (args .source) (args .destination) H (if1 .left) (if2 .left) (park-at .ensures (args .shape)) (park-at2 .ensures (args .shape)) (if3 .left) (if4 .left)) in
+    let t = send .ensures (args .shape) (c .before .before .before .before .before .before .before .before .before .before .records-at .ensures) (between (args .source) (args .destination) H (if1 .left) (if2 .left) (park-at .ensures (args .shape)) (park-at2 .ensures (args .shape)) (if3 .left) (if4 .left)) in
     let m = sym (t .told) ∙ not-false (send .result) (if5 .left) in
     let b = t .done m in
     requeue-moves H _ _ _ (if1 .left) (if2 .left) (if3 .left) (if4 .left) m
@@ -123,6 +126,7 @@ requeue-spec =
     returns-4
     park-at-requires
     park-at-requires-2
+    records-at-requires
     send-requires
     refusal-requires-5
     same-length

@@ -11,7 +11,7 @@ use lib.ListN.{length, getD}
 use Rattle.heads.proofs.Steps.{head-within, holder-within}
 use Rattle.heads.proofs.Tests.{heading-is}
 use Rattle.members.specs.Walk.{Met}
-use Rattle.sound.proofs.Queues.{Passed, passed-none, passed-all, passed-odd, passed-broken, passed-on}
+use Rattle.sound.proofs.Queues.{Passed, passed-none, passed-all, passed-empty, passed-held, passed-odd, passed-broken, passed-on}
 use Rattle.sound.proofs.rings.Statement.{statement}
 use Rattle.sound.proofs.rings.Tie as tie
 
@@ -44,20 +44,39 @@ holder-word-requires c κs =
     let loop-test = c .before .before .loop-test in
     holder-within _ _ _ _ _ (c .before .head-at .ensures) (loop-test .taken) (pre .3)
 
-in-order-requires : tie.Need-in-order-requires Inv-loop μ-loop
-in-order-requires c κs = search needs
+add-i : tie.Need-add-i Inv-loop μ-loop
+add-i c = omega arith
 
 returns : tie.Need-returns Inv-loop μ-loop
 returns c js T =
-    let loop-test = c .before .before .before .before .before .loop-test in
-    let head-at = c .before .before .before .before .head-at in
-    let holder-word = c .before .before .holder-word in
-    let l = c .before .before .before .before .before .before in
-    passed-odd _ _ _ _ _ _ _ _ (head-at .ensures) refl (holder-word .ensures) _ (loop-test .taken) _ _ js (l .loop .inv .1 js T) _ (c .before .in-order .ensures) _ (c .if1 .taken)
+    let h = c .before .before in
+    let l = h .before .before .before .before in
+    passed-held _ _ _ _ _ _ _ _ (h .before .before .head-at .ensures) refl (h .holder-word .ensures) _ (h .before .before .before .loop-test .taken) _ _ js (l .loop .inv .1 js T) _ (c .before .if1 .taken) (c .if2 .taken)
+
+loop-less : tie.Need-loop-less Inv-loop μ-loop
+loop-less c = omega arith
+
+loop-again : tie.Need-loop-again Inv-loop μ-loop
+loop-again c = (
+  omega arith,
+  λ js T.
+      let h = c .before .before in
+      let l = h .before .before .before .before in
+      passed-empty _ _ _ _ _ _ _ _ (h .before .before .head-at .ensures) refl (h .holder-word .ensures) _ (h .before .before .before .loop-test .taken) _ _ js (l .loop .inv .1 js T) (c .before .if1 .taken) (c .if2 .left),
+)
+
+in-order-requires : tie.Need-in-order-requires Inv-loop μ-loop
+in-order-requires c κs = search needs
+
+returns-2 : tie.Need-returns-2 Inv-loop μ-loop
+returns-2 c js T =
+    let h = c .before .before .before in
+    let l = h .before .before .before .before in
+    passed-odd _ _ _ _ _ _ _ _ (h .before .before .head-at .ensures) refl (h .holder-word .ensures) _ (h .before .before .before .loop-test .taken) _ _ js (l .loop .inv .1 js T) _ (c .before .in-order .ensures) _ (c .if3 .taken)
 
 -- past the test the tail is one of 0 to P
-tail-small : (c : tie.Else1 Inv-loop μ-loop) → getD (now (c .before .before .before .before .before .before .before .before .before .args .heads)) (c .before .before .before .before .head-at .result) 0 / 8 ≤ c .before .before .before .before .before .before .before .before .before .args .processes
-tail-small c = heading-is _ _ _ _ (sym (c .before .in-order .ensures) ∙ not-false _ (c .if1 .left)) .tail
+tail-small : (c : tie.Else3 Inv-loop μ-loop) → getD (now (c .before .before .before .before .before .before .before .before .before .before .args .heads)) (c .before .before .before .before .before .head-at .result) 0 / 8 ≤ c .before .before .before .before .before .before .before .before .before .before .args .processes
+tail-small c = heading-is _ _ _ _ (sym (c .before .in-order .ensures) ∙ not-false _ (c .if3 .left)) .tail
 
 cast-walk : tie.Need-cast-walk Inv-loop μ-loop
 cast-walk c = search needs
@@ -68,29 +87,28 @@ cast-walk-2 c = omega (arith, tail-small c)
 walk-requires : tie.Need-walk-requires Inv-loop μ-loop
 walk-requires c κs = omega (arith, tail-small (c .before))
 
-returns-2 : tie.Need-returns-2 Inv-loop μ-loop
-returns-2 c = λ js T.
-    let i1 = c .before .before .before in
-    let l = i1 .before .before .before .before .before .before in
-    passed-broken _ _ _ _ _ _ _ _ (i1 .before .before .before .before .head-at .ensures) refl (i1 .before .before .holder-word .ensures) _ (i1 .before .before .before .before .before .loop-test .taken) _ _ js (l .loop .inv .1 js T) _ (i1 .before .in-order .ensures) (i1 .if1 .left) _ _ (c .before .walk .ensures) _ (l .before .before .before .pre .0) (c .if2 .taken)
+returns-3 : tie.Need-returns-3 Inv-loop μ-loop
+returns-3 c = λ js T.
+    let i3 = c .before .before .before in
+    let h = i3 .before .before .before in
+    let l = h .before .before .before .before in
+    passed-broken _ _ _ _ _ _ _ _ (h .before .before .head-at .ensures) refl (h .holder-word .ensures) _ (h .before .before .before .loop-test .taken) _ _ js (l .loop .inv .1 js T) _ (i3 .before .in-order .ensures) (i3 .if3 .left) _ _ (c .before .walk .ensures) _ (l .before .before .before .pre .0) (c .if4 .taken)
 
-add-i : tie.Need-add-i Inv-loop μ-loop
-add-i c = omega arith
+loop-less-2 : tie.Need-loop-less-2 Inv-loop μ-loop
+loop-less-2 c = omega arith
 
-loop-less : tie.Need-loop-less Inv-loop μ-loop
-loop-less c = omega arith
-
-loop-again : tie.Need-loop-again Inv-loop μ-loop
-loop-again c = (
+loop-again-2 : tie.Need-loop-again-2 Inv-loop μ-loop
+loop-again-2 c = (
   omega arith,
   λ js T.
-      let i1 = c .before .before .before in
-      let l = i1 .before .before .before .before .before .before in
-      passed-on _ _ _ _ _ _ _ _ (i1 .before .before .before .before .head-at .ensures) refl (i1 .before .before .holder-word .ensures) _ (i1 .before .before .before .before .before .loop-test .taken) _ _ js (l .loop .inv .1 js T) _ (i1 .before .in-order .ensures) (i1 .if1 .left) _ _ (c .before .walk .ensures) (c .if2 .left),
+      let i3 = c .before .before .before in
+      let h = i3 .before .before .before in
+      let l = h .before .before .before .before in
+      passed-on _ _ _ _ _ _ _ _ (h .before .before .head-at .ensures) refl (h .holder-word .ensures) _ (h .before .before .before .loop-test .taken) _ _ js (l .loop .inv .1 js T) _ (i3 .before .in-order .ensures) (i3 .if3 .left) _ _ (c .before .walk .ensures) (c .if4 .left),
 )
 
-returns-3 : tie.Need-returns-3 Inv-loop μ-loop
-returns-3 c = λ js T. passed-all _ _ _ _ _ _ _ _ js (c .before .loop .inv .1 js T) (c .before .loop .inv .0) (c .loop-test .left)
+returns-4 : tie.Need-returns-4 Inv-loop μ-loop
+returns-4 c = λ js T. passed-all _ _ _ _ _ _ _ _ js (c .before .loop .inv .1 js T) (c .before .loop .inv .0) (c .loop-test .left)
 
 pub rings-spec : {M : Type 1} → statement M
 rings-spec =
@@ -103,13 +121,16 @@ rings-spec =
     mul-w
     shared-slice-read-w
     holder-word-requires
-    in-order-requires
+    add-i
     returns
+    loop-less
+    loop-again
+    in-order-requires
+    returns-2
     cast-walk
     cast-walk-2
     walk-requires
-    returns-2
-    add-i
-    loop-less
-    loop-again
-    returns-3)
+    returns-3
+    loop-less-2
+    loop-again-2
+    returns-4)

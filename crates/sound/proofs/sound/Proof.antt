@@ -1,33 +1,38 @@
 -- `sound::sound` meets its contract: past its tests the counts, the three passes and running are what `Check` asks for, and each way out before the end
 -- contradicts a clause of soundness. Assumes nothing.
 use denote.Ref.{now}
-use Prim.Native.Nat.{_≤_}
+use Prim.Native.Nat.{ℕ, _≤_}
 use native.Mathlib.Omega.{arith}
-use mathlib.Core.Path.{refl, sym, _∙_}
+use mathlib.Core.Path.{refl}
+use mathlib.Core.List.{List}
 use lib.ListN.{length}
 use borrow.Author.Needs.{needs}
 use Rattle.area.specs.Layout.{size}
 use Rattle.heads.specs.First.{Counted}
 use Rattle.members.proofs.Chains.{Words}
 use Rattle.members.proofs.Marks.{clear}
-use Rattle.sound.proofs.Check.{Past, decides-yes, decides-no, uncounted, broken-1, broken-2, uneven, finished, refuses}
-use Rattle.sound.proofs.Queues.{counted-long, lent-count, lent-led, lent-runs, lent-within, lent-visits}
+use Rattle.sound.proofs.Check.{Past, decides-yes, decides-no, uncounted, broken-1, broken-2, uneven, finished, lent-answers, lent-refuses}
+use Rattle.sound.proofs.Queues.{from, lent-small, counted-long, lent-count, lent-led, lent-runs, lent-within, lent-visits}
 use Rattle.sound.proofs.sound.Statement.{statement}
 use Rattle.sound.proofs.sound.Tie as tie
 
--- the words are 16-bit
-small-then : (c : tie.Then1) → Words (now (c .before .before .before .args .area))
-small-then c i = omega (arith, c .before .before .shared-slice-known .given i)
+-- the area: the words from 0 on, lent
+abbrev area : tie.After-area → List ℕ
+area c = from (now (c .before .before .args .words)) 0
 
-small : (c : tie.Else1) → Words (now (c .before .before .before .args .area))
-small c i = omega (arith, c .before .before .shared-slice-known .given i)
+-- its words are 16-bit
+words-small : (c : tie.After-area) → Words (area c)
+words-small c = lent-small (now (c .before .before .args .words)) (λ i. omega (arith, c .before .shared-slice-known .given i))
+
+small : (c : tie.Else1) → Words (area (c .before .before))
+small c = words-small (c .before .before)
 
 -- past the first test the counts are in range
-counts : (c : tie.Else1) → Counted (now (c .before .before .before .args .area))
+counts : (c : tie.Else1) → Counted (area (c .before .before))
 counts c = decides-yes (c .before .counted .result) (c .before .counted .ensures) (c .if1 .left)
 
 -- and the area is as long as they ask
-long : (c : tie.After-records-at) → size (c .before .shape-of .result) ≤ length (now (c .before .before .before .before .before .args .area))
+long : (c : tie.After-records-at) → size (c .before .shape-of .result) ≤ length (area (c .before .before .before .before))
 long c = counted-long (c .before .shape-of .ensures) (counts (c .before .before))
 
 -- from behind each later test back to the records
@@ -37,13 +42,22 @@ from-2 c = c .before .before .before .before .before .before
 abbrev from-3 : tie.Else3 → tie.After-records-at
 from-3 c = from-2 (c .before .before .before .before .before .before)
 
+sub-area : tie.Need-sub-area
+sub-area c = search needs
+
+part-area-start : tie.Need-part-area-start
+part-area-start c = search needs
+
+part-area-end : tie.Need-part-area-end
+part-area-end c = search needs
+
 counted-requires : tie.Need-counted-requires
 counted-requires c κs = search needs
 
 returns : tie.Need-returns
 returns c =
-    let args = c .before .before .before .args in
-    refuses (uncounted (now (args .area)) (small-then c) (decides-no (c .before .counted .result) (c .before .counted .ensures) (c .if1 .taken)))
+    let a = c .before .before in
+    lent-refuses _ (uncounted (area a) (words-small a) (decides-no (c .before .counted .result) (c .before .counted .ensures) (c .if1 .taken)))
 
 shape-of-requires : tie.Need-shape-of-requires
 shape-of-requires c κs = omega (arith, counts c)
@@ -89,8 +103,8 @@ unfolding clear
 returns-2 c =
     let r = c .before .before .before .before .before .before in
     let e = r .before .before in
-    let ws = now (e .before .before .before .args .area) in
-    refuses (broken-1 ws (small e) (counts e) _ _ (lent-visits ws (r .before .shape-of .ensures) (r .records-at .ensures) 0 (omega arith) refl _ _ _ _ (c .before .rings .ensures)) (c .if2 .taken))
+    let ws = area (e .before .before) in
+    lent-refuses _ (broken-1 ws (small e) (counts e) _ _ (lent-visits ws (r .before .shape-of .ensures) (r .records-at .ensures) 0 (omega arith) refl _ _ _ _ (c .before .rings .ensures)) (c .if2 .taken))
 
 conditions-at-requires : tie.Need-conditions-at-requires
 conditions-at-requires c κs = search needs
@@ -124,8 +138,8 @@ returns-3 c =
     let i2 = l .before in
     let r = from-2 i2 in
     let e = r .before .before in
-    let ws = now (e .before .before .before .args .area) in
-    refuses (broken-2 ws (small e) (counts e) _ _ (lent-visits ws (r .before .shape-of .ensures) (r .records-at .ensures) 0 (omega arith) refl _ _ _ _ (i2 .before .rings .ensures)) (i2 .if2 .left)
+    let ws = area (e .before .before) in
+    lent-refuses _ (broken-2 ws (small e) (counts e) _ _ (lent-visits ws (r .before .shape-of .ensures) (r .records-at .ensures) 0 (omega arith) refl _ _ _ _ (i2 .before .rings .ensures)) (i2 .if2 .left)
     _ _ (lent-visits ws (r .before .shape-of .ensures) (r .records-at .ensures) 2 (omega arith) (l .conditions-at .ensures) _ _ _ _ (c .before .rings2 .ensures)) (c .if3 .taken))
 
 locks-at-requires : tie.Need-locks-at-requires
@@ -165,14 +179,14 @@ returns-4 c =
     let i2 = l .before in
     let r = from-2 i2 in
     let e = r .before .before in
-    let ws = now (e .before .before .before .args .area) in
-    refuses (uneven ws (small e) (counts e) _ _ (lent-visits ws (r .before .shape-of .ensures) (r .records-at .ensures) 0 (omega arith) refl _ _ _ _ (i2 .before .rings .ensures)) (i2 .if2 .left)
+    let ws = area (e .before .before) in
+    lent-refuses _ (uneven ws (small e) (counts e) _ _ (lent-visits ws (r .before .shape-of .ensures) (r .records-at .ensures) 0 (omega arith) refl _ _ _ _ (i2 .before .rings .ensures)) (i2 .if2 .left)
     _ _ (lent-visits ws (r .before .shape-of .ensures) (r .records-at .ensures) 2 (omega arith) (l .conditions-at .ensures) _ _ _ _ (i3 .before .rings2 .ensures)) (i3 .if3 .left)
     _ _ (lent-visits ws (r .before .shape-of .ensures) (r .records-at .ensures) 1 (omega arith) (k .locks-at .ensures) _ _ _ _ (c .before .before .rings3 .ensures))
-    (λ f. c .if4 .taken (f ∙ sym (lent-count ws (r .before .shape-of .ensures) (r .records-at .ensures)))))
+    (λ f. omega (arith, c .if4 .taken, lent-count ws (r .before .shape-of .ensures) (r .records-at .ensures))))
 
 -- past the last test every process is met once
-past : (c : tie.Else4) → Past (now (from-3 (c .before .before .before .before .before .before .before) .before .before .before .before .before .args .area))
+past : (c : tie.Else4) → Past (area (from-3 (c .before .before .before .before .before .before .before) .before .before .before .before))
 unfolding clear
 past c =
     let k = c .before .before .before .before .before .before in
@@ -181,11 +195,11 @@ past c =
     let i2 = l .before in
     let r = from-2 i2 in
     let e = r .before .before in
-    let ws = now (e .before .before .before .args .area) in
+    let ws = area (e .before .before) in
     finished ws (small e) (counts e) _ _ (lent-visits ws (r .before .shape-of .ensures) (r .records-at .ensures) 0 (omega arith) refl _ _ _ _ (i2 .before .rings .ensures)) (i2 .if2 .left)
     _ _ (lent-visits ws (r .before .shape-of .ensures) (r .records-at .ensures) 2 (omega arith) (l .conditions-at .ensures) _ _ _ _ (i3 .before .rings2 .ensures)) (i3 .if3 .left)
     _ _ (lent-visits ws (r .before .shape-of .ensures) (r .records-at .ensures) 1 (omega arith) (k .locks-at .ensures) _ _ _ _ (c .before .before .rings3 .ensures))
-    (c .if4 .left ∙ lent-count ws (r .before .shape-of .ensures) (r .records-at .ensures))
+    (omega (arith, c .if4 .left, lent-count ws (r .before .shape-of .ensures) (r .records-at .ensures)))
 
 runs-requires : tie.Need-runs-requires
 runs-requires c κs =
@@ -195,12 +209,15 @@ runs-requires c κs =
 returns-5 : tie.Need-returns-5
 returns-5 c =
     let r = from-3 (c .before .before .before .before .before .before .before .before) in
-    past (c .before) .decided (c .runs .result) (lent-runs _ (r .before .shape-of .ensures) (r .records-at .ensures) (c .runs .result) (c .runs .ensures))
+    lent-answers _ (c .runs .result) (past (c .before) .decided (c .runs .result) (lent-runs _ (r .before .shape-of .ensures) (r .records-at .ensures) (c .runs .result) (c .runs .ensures)))
 
 pub sound-spec : {M : Type 1} → statement M
 sound-spec =
     tie.close
     (tie.spec
+    sub-area
+    part-area-start
+    part-area-end
     counted-requires
     returns
     shape-of-requires

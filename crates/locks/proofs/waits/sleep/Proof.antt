@@ -35,24 +35,27 @@ ready-at-requires c κs = search needs
 condition-at-requires : tie.Need-condition-at-requires
 condition-at-requires c κs = search needs
 
+records-at-requires : tie.Need-records-at-requires
+records-at-requires c κs = search needs
+
 send-requires : tie.Need-send-requires
 send-requires c κs =
-    let n = c .before .before .before .before .before .before .before .before .before .before .before .before .before .args .shape in
-    let t = c .before .before .before .before .before .before .before .before .before .before .before .before .before .pre .0 in
-    let L = c .before .before .before .before .before .before .timer .ensures in
-    let b = c .before .before .before .before .before .put .ensures n (t .0) (timer (c .before .before .before .before .before .before .before .before .before .before .before .before .before .args .p)) (t .1) (taking (timer (c .before .before .before .before .before .before .before .before .before .before .before .before .before .args .p)) L refl (rw (L .0) (omega arith))) in
-    going (b .holds) ready (condition (c .before .before .before .before .before .before .before .before .before .before .before .before .before .args .condition)) refl (c .before .before .before .before .before .before .before .before .before .before .before .before .before .pre .1) (c .before .before .ready-at .ensures n) (c .before .condition-at .ensures) (t .2) refl
+    let n = c .before .before .before .before .before .before .before .before .before .before .before .before .before .before .args .shape in
+    let t = c .before .before .before .before .before .before .before .before .before .before .before .before .before .before .pre .0 in
+    let L = c .before .before .before .before .before .before .before .timer .ensures in
+    let b = c .before .before .before .before .before .before .put .ensures n (t .0) (timer (c .before .before .before .before .before .before .before .before .before .before .before .before .before .before .args .p)) (t .1) (taking (timer (c .before .before .before .before .before .before .before .before .before .before .before .before .before .before .args .p)) L refl (rw (L .0) (omega arith))) in
+    (n, c .before .records-at .ensures, going (b .holds) ready (condition (c .before .before .before .before .before .before .before .before .before .before .before .before .before .before .args .condition)) refl (c .before .before .before .before .before .before .before .before .before .before .before .before .before .before .pre .1) (c .before .before .before .ready-at .ensures n) (c .before .before .condition-at .ensures) (t .2) refl)
 
 same-length : tie.Need-same-length
 same-length c = search needs
 
 returns : tie.Need-returns
 returns c s H m =
-    let n = c .before .before .before .before .before .before .before .before .before .before .before .before .before .before .before .before .args .shape in
-    let L = c .before .before .before .before .before .before .before .before .before .timer .ensures in
-    let now = c .before .before .before .before .before .before .before .before .before .before .before .before .get .ensures n s clock H (c .before .before .before .before .before .before .before .before .before .before .before .before .before .clock .ensures n) in
-    let b = c .before .before .before .before .before .before .before .before .put .ensures n s (timer (c .before .before .before .before .before .before .before .before .before .before .before .before .before .before .before .before .args .p)) H (taking (timer (c .before .before .before .before .before .before .before .before .before .before .before .before .before .before .before .before .args .p)) L refl (rw (L .0) (omega arith))) in
-    sleeps s (c .before .before .before .before .before .before .before .before .before .before .before .before .before .before .before .before .args .p) (c .before .before .before .before .before .before .before .before .before .before .before .before .before .before .before .before .args .condition) (c .before .before .before .before .before .before .before .before .before .before .before .before .before .before .before .before .args .ticks .0) now (c .before .before .before .before .before .before .before .before .before .before .before .alarm-at .ensures) (becomes-then b (c .before .before .send .ensures (going (b .holds) ready (condition (c .before .before .before .before .before .before .before .before .before .before .before .before .before .before .before .before .args .condition)) refl (c .before .before .before .before .before .before .before .before .before .before .before .before .before .before .before .before .pre .1) (c .before .before .before .before .before .ready-at .ensures n) (c .before .before .before .before .condition-at .ensures) m refl) .done refl))
+    let n = c .before .before .before .before .before .before .before .before .before .before .before .before .before .before .before .before .before .args .shape in
+    let L = c .before .before .before .before .before .before .before .before .before .before .timer .ensures in
+    let now = c .before .before .before .before .before .before .before .before .before .before .before .before .before .get .ensures n s clock H (c .before .before .before .before .before .before .before .before .before .before .before .before .before .before .clock .ensures n) in
+    let b = c .before .before .before .before .before .before .before .before .before .put .ensures n s (timer (c .before .before .before .before .before .before .before .before .before .before .before .before .before .before .before .before .before .args .p)) H (taking (timer (c .before .before .before .before .before .before .before .before .before .before .before .before .before .before .before .before .before .args .p)) L refl (rw (L .0) (omega arith))) in
+    sleeps s (c .before .before .before .before .before .before .before .before .before .before .before .before .before .before .before .before .before .args .p) (c .before .before .before .before .before .before .before .before .before .before .before .before .before .before .before .before .before .args .condition) (c .before .before .before .before .before .before .before .before .before .before .before .before .before .before .before .before .before .args .ticks .0) now (c .before .before .before .before .before .before .before .before .before .before .before .before .alarm-at .ensures) (becomes-then b (c .before .before .send .ensures n (c .before .before .before .before .records-at .ensures) (going (b .holds) ready (condition (c .before .before .before .before .before .before .before .before .before .before .before .before .before .before .before .before .before .args .condition)) refl (c .before .before .before .before .before .before .before .before .before .before .before .before .before .before .before .before .before .pre .1) (c .before .before .before .before .before .before .ready-at .ensures n) (c .before .before .before .before .before .condition-at .ensures) m refl) .done refl))
 
 pub sleep-spec : {M : Type 1} → statement M
 sleep-spec =
@@ -65,6 +68,7 @@ sleep-spec =
     put-requires
     ready-at-requires
     condition-at-requires
+    records-at-requires
     send-requires
     same-length
     returns)

@@ -1,10 +1,9 @@
 -- `queues::ranks::set_priority` meets its contract: its tests in the rule's order; who runs moves to ready again, with its new priority. Assumes nothing.
 use native.Mathlib.Omega.{arith}
-use mathlib.Core.Path.{refl}
 use Rattle.model.specs.Queue.Queue.{ready}
 use Rattle.model.specs.Field.Field.{running, priority}
 use Rattle.area.specs.Holds.{with, sent}
-use Rattle.moves.proofs.Shared.{runner-stands, going}
+use Rattle.moves.proofs.Shared.{runner-stands}
 use Rattle.queues.proofs.Ranking.{set-priority-nobody, set-priority-high, set-priority-low}
 use borrow.Author.Needs.{needs}
 use Rattle.queues.proofs.ranks.set_priority.Statement.{statement}
@@ -38,25 +37,25 @@ returns-2 c s H v =
     let n = c .before .before .before .before .before .before .before .args .shape in
     set-priority-high H (c .before .before .before .before .before .before .before .args .priority) (c .before .before .before .get .ensures n s running H (c .before .before .before .before .running .ensures n)) (c .before .before .if1 .left) (c .before .if2 .taken) (c .refusal2 .ensures)
 
-ready-at-requires : tie.Need-ready-at-requires
-ready-at-requires c κs = search needs
+records-at-requires : tie.Need-records-at-requires
+records-at-requires c κs = search needs
 
-move-process-requires : tie.Need-move-process-requires
-move-process-requires c κs =
+rank-requires : tie.Need-rank-requires
+rank-requires c κs =
     let n = c .before .before .before .before .before .before .before .before .args .shape in
     let pre = c .before .before .before .before .before .before .before .before .pre in
-    let ready-at = c .before .ready-at in
+    let records-at = c .before .records-at in
     let runs = c .before .before .before .before .get .ensures n (pre .state) running (pre .holds) (c .before .before .before .before .before .running .ensures n) in
     let if2 = c .before .before .if2 in
-    ((going (pre .holds) ready ready refl refl (ready-at .ensures n) (ready-at .ensures n) (runner-stands runs (pre .valid) (c .before .before .before .if1 .left)) refl), omega (arith, if2 .left))
+    ((n, pre .state, records-at .ensures, pre .holds, runner-stands runs (pre .valid) (c .before .before .before .if1 .left)), omega (arith, if2 .left))
 
 finish-requires : tie.Need-finish-requires
 finish-requires c κs =
     let n = c .before .before .before .before .before .before .before .before .before .before .before .before .args .shape in
     let pre = c .before .before .before .before .before .before .before .before .before .before .before .before .pre in
-    let ready-at = c .before .before .before .before .before .ready-at in
+    let records-at = c .before .before .before .before .before .records-at in
     let runs = c .before .before .before .before .before .before .before .before .get .ensures n (pre .state) running (pre .holds) (c .before .before .before .before .before .before .before .before .before .running .ensures n) in
-    (_, c .before .before .before .move-process .ensures (going (pre .holds) ready ready refl refl (ready-at .ensures n) (ready-at .ensures n) (runner-stands runs (pre .valid) (c .before .before .before .before .before .before .before .if1 .left)) refl) .done refl .holds)
+    (_, c .before .before .before .rank .ensures n (pre .state) (records-at .ensures) (pre .holds) (runner-stands runs (pre .valid) (c .before .before .before .before .before .before .before .if1 .left)) .holds)
 
 same-length-3 : tie.Need-same-length-3
 same-length-3 c = search needs
@@ -64,10 +63,10 @@ same-length-3 c = search needs
 returns-3 : tie.Need-returns-3
 returns-3 c s H v =
     let n = c .before .before .before .before .before .before .before .before .before .before .before .before .before .before .before .args .shape in
-    let ready-at = c .before .before .before .before .before .before .before .before .ready-at in
+    let records-at = c .before .before .before .before .before .before .before .before .records-at in
     let get = c .before .before .before .before .before .before .before .before .before .before .before .get in
     let runs = get .ensures n s running H (c .before .before .before .before .before .before .before .before .before .before .before .before .running .ensures n) in
-    let b = c .before .before .before .before .before .before .move-process .ensures (going H ready ready refl refl (ready-at .ensures n) (ready-at .ensures n) (runner-stands runs v (c .before .before .before .before .before .before .before .before .before .before .if1 .left)) refl) .done refl in
+    let b = c .before .before .before .before .before .before .rank .ensures n s (records-at .ensures) H (runner-stands runs v (c .before .before .before .before .before .before .before .before .before .before .if1 .left)) in
     set-priority-low H (c .before .before .before .before .before .before .before .before .before .before .before .before .before .before .before .args .priority) runs (c .before .before .before .before .before .before .before .before .before .before .if1 .left) v (c .before .before .before .before .before .before .before .before .before .if2 .left) b (c .before .before .finish .ensures (sent (get .result) ready (with (priority (get .result)) (c .before .before .before .before .before .before .before .before .before .before .before .before .before .before .before .args .priority .0) s)) (b .holds))
 
 pub set-priority-spec : {M : Type 1} → statement M
@@ -82,8 +81,8 @@ set-priority-spec =
     refusal-requires-2
     same-length-2
     returns-2
-    ready-at-requires
-    move-process-requires
+    records-at-requires
+    rank-requires
     finish-requires
     same-length-3
     returns-3)

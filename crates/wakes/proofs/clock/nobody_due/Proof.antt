@@ -12,25 +12,24 @@ use Rattle.area.specs.Layout.{recordsAt}
 use Rattle.area.specs.State.{laid}
 use Rattle.area.specs.Holds.{Holds}
 use Rattle.area.specs.Loose.{ringing}
-use Rattle.wakes.proofs.Ticking.{front-fits, lent-image, none-next}
+use Rattle.area.proofs.Whole.{counts-in}
+use Rattle.moves.proofs.Relinks.{lent-front, lent-image}
+use Rattle.wakes.proofs.Ticking.{none-next}
 use borrow.Author.Needs.{needs}
 use Rattle.wakes.proofs.clock.nobody_due.Statement.{statement}
 use Rattle.wakes.proofs.clock.nobody_due.Tie as tie
 
 abbrev Inv-loop : tie.InvT-loop
-Inv-loop area time at processes p₀ p = (p ≤ processes) × ((n : Shape) (s : State model) → at ≡ recordsAt n → processes ≡ n .processes → Holds n area s → ringing (s .fields) time p ≡ [])
+Inv-loop area time at processes p₀ p = (1 ≤ p) × (p ≤ processes + 1) × ((n : Shape) (s : State model) → at ≡ recordsAt n → processes ≡ n .processes → Holds n area s → ringing (s .fields) time (p - 1) ≡ [])
 
 abbrev μ-loop : tie.MeasureT-loop
-μ-loop area time at processes p₀ p = processes - p
+μ-loop area time at processes p₀ p = processes + 1 - p
 
 records-at-requires : tie.Need-records-at-requires Inv-loop μ-loop
 records-at-requires c κs = search needs
 
 loop-holds : tie.Need-loop-holds Inv-loop μ-loop
-loop-holds c = (omega arith, λ n s a k H. refl)
-
-add-p : tie.Need-add-p Inv-loop μ-loop
-add-p c = omega arith
+loop-holds c = (omega arith, omega arith, λ n s a k H. refl)
 
 mul-timer-in : tie.Need-mul-timer-in Inv-loop μ-loop
 mul-timer-in c = search needs
@@ -48,27 +47,33 @@ timer-in-requires : tie.Need-timer-in-requires Inv-loop μ-loop
 timer-in-requires c κs =
     let s = c .before .before .before .before .before in
     let n = s .args .shape in
-    let H = s .pre .1 in
+    let im = s .pre .1 .image in
     let at-records = c .before .before .before .records-at .ensures in
-    (n, take (recordsAt n) (s .args .area .now), laid n (s .pre .0), front-fits H at-records, lent-image H at-records, bounds-inside (n .processes) (c .before .before .loop .p + 1) (omega arith) (omega arith))
+    (n, take (recordsAt n) (s .args .area .now), laid n (s .pre .0), lent-front at-records im, lent-image at-records im, bounds-inside (n .processes) (c .before .before .loop .p) (c .before .before .loop .inv .0) (c .before .loop-test .taken))
 
 returns : tie.Need-returns Inv-loop μ-loop
 returns c = λ s H e. absurd (false≢true e)
 
+add-p : tie.Need-add-p Inv-loop μ-loop
+add-p c = let s = c .before .before .before .before .before .before .before in omega (arith, counts-in (s .args .shape) (s .pre .1 .image .counts) .processes, c .before .before .before .loop-test .taken)
+
 loop-less : tie.Need-loop-less Inv-loop μ-loop
-loop-less c = omega arith
+loop-less c = omega (arith, c .before .before .before .loop-test .taken)
 
 loop-again : tie.Need-loop-again Inv-loop μ-loop
 loop-again c =
-    let l = c .before .before .before .before .loop in
-    (omega arith, λ n s a k H. none-next (s .fields) _ (l .p) (c .before .timer-in .result) (c .before .timer-in .ensures n (take (recordsAt n) _) (laid n s) (front-fits H a) (lent-image H a) (bounds-inside (n .processes) (l .p + 1) (omega arith) (omega (arith, k, c .before .before .before .loop-test .taken)))) (c .if1 .left) (l .inv .1 n s a k H))
+    let l = c .before .before .before .before .loop in (
+      omega arith,
+      omega (arith, c .before .before .before .loop-test .taken),
+      λ n s a k H. none-next (s .fields) _ (l .p) (c .before .timer-in .result) (l .inv .0) (c .before .timer-in .ensures n (take (recordsAt n) _) (laid n s) (lent-front a (H .image)) (lent-image a (H .image)) (bounds-inside (n .processes) (l .p) (l .inv .0) (omega (arith, k, c .before .before .before .loop-test .taken)))) (c .if1 .left) (l .inv .2 n s a k H),
+    )
 
 returns-2 : tie.Need-returns-2 Inv-loop μ-loop
 returns-2 c = λ s H e.
     let l = c .before .loop in
     let n = c .before .before .before .before .args .shape in
-    let all : l .p ≡ n .processes = omega (arith, l .inv .0, c .loop-test .left) in
-    subst (λ (k : ℕ). ringing (s .fields) (c .before .before .before .before .args .time) k ≡ []) all (l .inv .1 n s (c .before .before .records-at .ensures) refl H)
+    let all : l .p - 1 ≡ n .processes = omega (arith, l .inv .1, c .loop-test .left) in
+    subst (λ (k : ℕ). ringing (s .fields) (c .before .before .before .before .args .time) k ≡ []) all (l .inv .2 n s (c .before .before .records-at .ensures) refl H)
 
 pub nobody-due-spec : {M : Type 1} → statement M
 nobody-due-spec =
@@ -78,13 +83,13 @@ nobody-due-spec =
     μ-loop
     records-at-requires
     loop-holds
-    add-p
     mul-timer-in
     sub-timer-in
     part-timer-in-start
     part-timer-in-end
     timer-in-requires
     returns
+    add-p
     loop-less
     loop-again
     returns-2)
