@@ -1,8 +1,13 @@
 /* Times the library against the plain C kernel in one run. A row of the table is a call, or a few, on a scene: an area in which the
  * queues are laid for it. Every time the calls find a fresh copy of the scene, and the copying is not timed. Rounds of both kernels
  * alternate, and the whole table is gone through several times; a time is that of the fastest round, which the machine's other work
- * disturbed least. The arguments are the sizes, as counts of processes; without any, 3, 50 and 1023. */
+ * disturbed least. The arguments are the sizes, as counts of processes; without any, 3, 50 and 1023. PLACE is how many bytes behind the
+ * begin of a cache line the code of the program begins; best.py has more of that. */
 #define _POSIX_C_SOURCE 199309L
+
+#define QUOTE(number) #number
+#define SKIP(bytes) ".text\n.balign 64\n.skip " QUOTE(bytes) "\n"
+__asm__(SKIP(PLACE));
 
 #include "../include/kernel.h"
 #include "plain.h"

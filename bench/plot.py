@@ -1,6 +1,6 @@
 """Draws the bench's table: what a call costs against the number of processes, the library beside plain C.
 
-Reads the table of target/bench from standard input and writes an SVG to standard output. A few rows of it, a panel each, on the same two
+Reads the table of bench/best.py from standard input and writes an SVG to standard output. A few rows of it, a panel each, on the same two
 logarithmic axes; a power of ten has the same length on both, so that a cost that grows with the number of processes rises at 45 degrees.
 The dashed line through the library's last place rises so. The figure at a line's end is the library's cost divided by that of plain C.
 """

@@ -18,6 +18,7 @@ use Rattle.model.proofs.Lists.{remove-member, insert-member}
 use Rattle.ring.specs.Link as link
 use Rattle.ring.specs.Link.{relink, Stands}
 use Rattle.ring.specs.Ring.{Ring, Kept, Left, Joined}
+use Rattle.ring.proofs.Links.{relink-same}
 use Rattle.ring.proofs.Frame.{left-kept, left-ring, joined-kept, joined-ring}
 use Rattle.ring.proofs.Rings.{ring-tail-small}
 use Rattle.ring.proofs.Places.{falling-agree, insert-agree}
@@ -35,9 +36,6 @@ told w u = go (w / 8192) (w / 8 % 1024) (w % 8) (split w)
   where
     go : (a b c : ℕ) → w ≡ a * 8192 + b * 8 + c → a * 8192 + u * 8 + c + b * 8 ≡ w + u * 8
     go a b c e = omega arith
-
-relink-own : (w : ℕ) → relink w (w / 8 % 1024) ≡ w
-relink-own w = let e = told w (w / 8 % 1024) in omega arith
 
 -- a tail's word stands before the records
 pub tail-front : (n : Shape) (q : Queue) → exists n q ≡ true → at n (Tail q) < recordsAt n
@@ -192,7 +190,7 @@ module _ {n : Shape} {ws : List ℕ} {i p : ℕ} (j : Leaves n ws i p) (a w : �
       here = rw (part-back a ws r, at-records) (front-at n ws (j .parts) (j .rings .image) r i (rw (j .here) (tail-front n (j .queue) (j .given))))
 
       same : set (putMid a (length ws - a) ws r) i (relink (getD ws i 0) u) ≡ putMid a (length ws - a) ws r
-      same = ap (set (putMid a (length ws - a) ws r) i) (ap (relink (getD ws i 0)) (e ∙ reads) ∙ (relink-own (getD ws i 0) ∙ sym here)) ∙ set-getD (putMid a (length ws - a) ws r) i 0
+      same = ap (set (putMid a (length ws - a) ws r) i) (ap (relink (getD ws i 0)) (e ∙ reads) ∙ (relink-same (getD ws i 0) ∙ sym here)) ∙ set-getD (putMid a (length ws - a) ws r) i 0
 
 -- ---- p joins
 
