@@ -2,4 +2,3 @@ pub mod Performs
 pub mod Wire
 pub mod History
 pub mod Promises
-pub mod Replays

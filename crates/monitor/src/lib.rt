@@ -12,8 +12,6 @@ ghost use Rattle.model.specs.Machine.{refusal};
 ghost use Rattle.monitor.specs.Calls.{Performs, ListsOn};
 ghost use Rattle.monitor.specs.Wire.{packed, listFields, numberOf};
 
-pub mod replay;
-
 // ---- the calls, each on any words: it is asked whether the area is sound, and the crate that has the call makes it
 
 // What an unsound area is answered.

@@ -1,4 +1,4 @@
--- `monitor::replay::replay` meets its contract. The loop's invariant: the calls made so far are a run, the log's calls are those and what its
+-- `replay::replay` meets its contract. The loop's invariant: the calls made so far are a run, the log's calls are those and what its
 -- other records say, and their answers stand before what was there (`Doing`). The measure is the room that is left. Assumes nothing.
 use Prim.Native.Nat.{_-_}
 use native.Mathlib.Omega.{arith}
@@ -6,9 +6,9 @@ use mathlib.Core.Path.{_≡_, refl, _∙_}
 use borrow.Author.Needs.{needs}
 use borrow.Author.Tests.{not-true, not-false}
 use lib.ListN.{length}
-use Rattle.monitor.proofs.Replays.{Doing, doing-start, doing-long, doing-next, doing-stop, doing-full}
-use Rattle.monitor.proofs.replay.replay.Statement.{statement}
-use Rattle.monitor.proofs.replay.replay.Tie as tie
+use Rattle.replay.proofs.Replays.{Doing, doing-start, doing-long, doing-next, doing-stop, doing-full}
+use Rattle.replay.proofs.replay.Statement.{statement}
+use Rattle.replay.proofs.replay.Tie as tie
 
 abbrev Inv-loop : tie.InvT-loop
 Inv-loop area₀ log answers₀ done₀ area answers done = (length area ≡ length area₀) × Doing log area₀ area answers₀ answers done

@@ -10,11 +10,11 @@ use Rattle.model.specs.declared.Call.{Call}
 use Rattle.model.specs.declared.Call.the-variants.{Enter, Exit, Wait, Notify, Broadcast, Naked, Requeue, SetPriority, Tick}
 use Rattle.model.specs.declared.Answer.{Answer}
 use Rattle.start.specs.Start.{Starts}
-use Rattle.monitor.specs.declared.replay.Record.{Record}
-use Rattle.monitor.specs.declared.replay.Record.the-variants.{Made, Malformed}
 use Rattle.monitor.specs.Calls.{Performs}
 use Rattle.monitor.specs.History.{Run, Ends}
 use Rattle.monitor.specs.Wire.{numberOf, answerOf}
+use Rattle.replay.specs.declared.Record.{Record}
+use Rattle.replay.specs.declared.Record.the-variants.{Made, Malformed}
 
 -- ---- a record
 

@@ -1,9 +1,9 @@
--- `monitor::replay::no_three` meets its contract: one test after the other. Assumes nothing.
+-- `replay::no_three` meets its contract: one test after the other. Assumes nothing.
 use mathlib.Core.Path.{refl}
 use borrow.Author.Tests.{eq-eqb, ne-eqb}
 use borrow.Author.Needs.{needs}
-use Rattle.monitor.proofs.replay.no_three.Statement.{statement}
-use Rattle.monitor.proofs.replay.no_three.Tie as tie
+use Rattle.replay.proofs.no_three.Statement.{statement}
+use Rattle.replay.proofs.no_three.Tie as tie
 
 no-two-requires : tie.Need-no-two-requires
 no-two-requires c κs = search needs

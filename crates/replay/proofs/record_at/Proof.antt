@@ -1,9 +1,9 @@
--- `monitor::replay::record_at` meets its contract: what stands at 4 k is the first of what is left after 4 k words. Assumes nothing.
+-- `replay::record_at` meets its contract: what stands at 4 k is the first of what is left after 4 k words. Assumes nothing.
 use mathlib.Core.Path.{_∙_}
 use borrow.Author.Needs.{needs}
-use Rattle.monitor.proofs.Replays.{first-short, first-whole}
-use Rattle.monitor.proofs.replay.record_at.Statement.{statement}
-use Rattle.monitor.proofs.replay.record_at.Tie as tie
+use Rattle.replay.proofs.Replays.{first-short, first-whole}
+use Rattle.replay.proofs.record_at.Statement.{statement}
+use Rattle.replay.proofs.record_at.Tie as tie
 
 returns : tie.Need-returns
 returns c = first-short _ _ (c .if1 .taken)

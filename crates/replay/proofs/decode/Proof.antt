@@ -1,10 +1,10 @@
--- `monitor::replay::decode` meets its contract: the test of the first word's other bits picks. Assumes nothing.
+-- `replay::decode` meets its contract: the test of the first word's other bits picks. Assumes nothing.
 use mathlib.Core.Path.{refl}
 use borrow.Author.Tests.{eq-eqb, ne-eqb}
 use borrow.Author.Needs.{needs}
-use Rattle.monitor.specs.Replay.{recorded, pick}
-use Rattle.monitor.proofs.replay.decode.Statement.{statement}
-use Rattle.monitor.proofs.replay.decode.Tie as tie
+use Rattle.replay.specs.Replay.{recorded, pick}
+use Rattle.replay.proofs.decode.Statement.{statement}
+use Rattle.replay.proofs.decode.Tie as tie
 
 operate-requires : tie.Need-operate-requires
 operate-requires c κs = search needs

@@ -13,16 +13,16 @@ use Rattle.model.specs.declared.Call.{Call}
 use Rattle.model.specs.declared.Call.the-variants.{Enter, Exit, Wait, Notify, Broadcast, Naked, Requeue, SetPriority, Tick}
 use Rattle.model.specs.declared.Answer.{Answer}
 use Rattle.model.specs.Machine.{fieldsOf}
-use Rattle.monitor.specs.declared.replay.Record.{Record}
-use Rattle.monitor.specs.declared.replay.Record.the-variants.{Made, Malformed}
 use Rattle.monitor.specs.Calls.{Performs}
 use Rattle.monitor.specs.History.{Run, Ends}
 use Rattle.monitor.specs.History.Run.{none, then}
 use Rattle.monitor.specs.Wire.{numberOf, answerOf}
-use Rattle.monitor.specs.Replay.{none2, none3, pick, made, operation, recorded, firstOf, follow, logged, Served, Replayed, LogDemand3}
 use Rattle.monitor.proofs.Wire.{carries}
 use Rattle.monitor.proofs.History.{run-ends}
 use Rattle.monitor.proofs.Promises.{performs-fits, read-answer}
+use Rattle.replay.specs.declared.Record.{Record}
+use Rattle.replay.specs.declared.Record.the-variants.{Made, Malformed}
+use Rattle.replay.specs.Replay.{none2, none3, pick, made, operation, recorded, firstOf, follow, logged, Served, Replayed, LogDemand3}
 
 -- ---- a run
 

@@ -1,14 +1,14 @@
 // A log of calls, made one after the other on one area. Assumes nothing.
-use crate::pack;
-use crate::perform;
 use model::Call;
 use model::Priority;
 use model::Process;
 use model::Ticks;
+use monitor::pack;
+use monitor::perform;
 ghost use mathlib.Core.Path.{_≡_};
 ghost use Prim.Native.Nat.{_<_, _*_};
 ghost use lib.ListN.{length, drop};
-ghost use Rattle.monitor.specs.Replay.{none2, none3, made, operation, recorded, firstOf, Served, Replayed};
+ghost use Rattle.replay.specs.Replay.{none2, none3, made, operation, recorded, firstOf, Served, Replayed};
 
 // What four words of a log say: a call, or nothing that can be made.
 pub enum Record {

@@ -1,8 +1,8 @@
--- `monitor::replay::made_if` meets its contract: the test picks. Assumes nothing.
+-- `replay::made_if` meets its contract: the test picks. Assumes nothing.
 use mathlib.Core.Path.{refl}
-use Rattle.monitor.specs.Replay.{pick}
-use Rattle.monitor.proofs.replay.made_if.Statement.{statement}
-use Rattle.monitor.proofs.replay.made_if.Tie as tie
+use Rattle.replay.specs.Replay.{pick}
+use Rattle.replay.proofs.made_if.Statement.{statement}
+use Rattle.replay.proofs.made_if.Tie as tie
 
 returns : tie.Need-returns
 unfolding pick

@@ -1,9 +1,9 @@
--- `monitor::replay::serve` meets its contract: each arm is the record that was read. Assumes nothing.
+-- `replay::serve` meets its contract: each arm is the record that was read. Assumes nothing.
 use mathlib.Core.Path.{refl, sym, _∙_}
 use borrow.Author.Needs.{needs}
-use Rattle.monitor.proofs.Replays.{served, not-served}
-use Rattle.monitor.proofs.replay.serve.Statement.{statement}
-use Rattle.monitor.proofs.replay.serve.Tie as tie
+use Rattle.replay.proofs.Replays.{served, not-served}
+use Rattle.replay.proofs.serve.Statement.{statement}
+use Rattle.replay.proofs.serve.Tie as tie
 
 record-at-requires : tie.Need-record-at-requires
 record-at-requires c κs = search needs

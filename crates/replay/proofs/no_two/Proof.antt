@@ -1,8 +1,8 @@
--- `monitor::replay::no_two` meets its contract: one test after the other. Assumes nothing.
+-- `replay::no_two` meets its contract: one test after the other. Assumes nothing.
 use mathlib.Core.Path.{refl}
 use borrow.Author.Tests.{eq-eqb, ne-eqb}
-use Rattle.monitor.proofs.replay.no_two.Statement.{statement}
-use Rattle.monitor.proofs.replay.no_two.Tie as tie
+use Rattle.replay.proofs.no_two.Statement.{statement}
+use Rattle.replay.proofs.no_two.Tie as tie
 
 returns : tie.Need-returns
 returns c = rw (eq-eqb _ _ (c .if1 .taken)) refl

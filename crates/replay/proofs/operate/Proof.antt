@@ -1,9 +1,9 @@
--- `monitor::replay::operate` meets its contract: each number makes the call of its place in 01's order, and the others none. Assumes nothing.
+-- `replay::operate` meets its contract: each number makes the call of its place in 01's order, and the others none. Assumes nothing.
 use mathlib.Core.Path.{refl}
 use borrow.Author.Needs.{needs}
-use Rattle.monitor.proofs.Replays.{op-enter, op-exit, op-wait, op-notify, op-broadcast, op-naked, op-requeue, op-priority, op-tick, op-none}
-use Rattle.monitor.proofs.replay.operate.Statement.{statement}
-use Rattle.monitor.proofs.replay.operate.Tie as tie
+use Rattle.replay.proofs.Replays.{op-enter, op-exit, op-wait, op-notify, op-broadcast, op-naked, op-requeue, op-priority, op-tick, op-none}
+use Rattle.replay.proofs.operate.Statement.{statement}
+use Rattle.replay.proofs.operate.Tie as tie
 
 no-two-requires : tie.Need-no-two-requires
 no-two-requires c κs = search needs
