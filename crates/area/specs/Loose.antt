@@ -14,7 +14,7 @@ use Rattle.model.specs.Rules.{calm}
 use Rattle.model.specs.Machine as machine
 use Rattle.model.specs.Machine.{State, model}
 use Rattle.ring.specs.Link as link
-use Rattle.ring.specs.Many.{Lasts}
+use Rattle.many.specs.Many.{Lasts}
 use Rattle.area.specs.Layout.{Parts, size}
 use Rattle.area.specs.Layout.Part.{kept, locked, waiting}
 use Rattle.area.specs.State.{last}

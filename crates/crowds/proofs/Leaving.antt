@@ -19,9 +19,9 @@ use Rattle.model.proofs.Lists.{filter-member, falling-filter}
 use Rattle.model.proofs.Many.{filter-agree}
 use Rattle.ring.specs.Link.{relink, slot}
 use Rattle.ring.specs.Ring.{Ring, Kept}
-use Rattle.ring.specs.Many.{stays, Swept}
 use Rattle.ring.proofs.Frame.{kept-ring}
 use Rattle.ring.proofs.Rings.{ring-empty, ring-tail-small}
+use Rattle.many.specs.Many.{stays, Swept}
 use Rattle.area.specs.Layout.{recordsAt, at}
 use Rattle.area.specs.Layout.Part.{tail}
 use Rattle.area.specs.Layout.Slot.{Tail, Timer}

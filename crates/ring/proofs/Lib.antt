@@ -6,8 +6,4 @@ pub mod Walk
 pub mod Tour
 pub mod Moves
 pub mod Frame
-pub mod Lasts
-pub mod Noted
-pub mod Sweeping
-pub mod Gathering
 pub mod Examples

@@ -1,4 +1,2 @@
 pub mod Link
 pub mod Ring
-pub mod Many
-pub mod Bands

@@ -25,8 +25,8 @@ use Rattle.model.proofs.Loops.{start-others, start-ready}
 use Rattle.ring.specs.Link as link
 use Rattle.ring.specs.Link.{slot}
 use Rattle.ring.specs.Ring.{Linked, Ring}
-use Rattle.ring.specs.Bands.{Ranked, Gathered}
 use Rattle.ring.proofs.Rings.{ring-tail-small}
+use Rattle.many.specs.Bands.{Ranked, Gathered}
 use Rattle.area.specs.Layout.{Slot, word, recordsAt, size, at, has, Image}
 use Rattle.area.specs.Layout.Part.{waiting}
 use Rattle.area.specs.Layout.Slot.{Processes, LocksConditions, Parks, Clock, Running, Tail, Holder, Link, Flags, Timer}

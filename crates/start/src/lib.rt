@@ -105,7 +105,7 @@ fn line_up(area: &mut [u16], shape: Shape, priorities: &[u8])
     ensures { λ _. ⌜ Becomes shape (now (area .entry)) (now (area .exit)) (lined (now (priorities .entry)) (shape .processes)) ⌝ }
 {
     let at = area::records_at(shape);
-    let tail = ring::bands::gather(&mut area[at..], priorities);
+    let tail = many::bands::gather(&mut area[at..], priorities);
     area[layout::READY] = tail * ring::NUMBER;
 }
 

@@ -1,0 +1,4 @@
+pub mod Lasts
+pub mod Noted
+pub mod Sweeping
+pub mod Gathering
