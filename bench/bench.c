@@ -32,13 +32,15 @@ struct calls {
     uint64_t (*wait)(uint16_t *, size_t, uint16_t, uint16_t, uint16_t);
     uint64_t (*requeue)(uint16_t *, size_t, uint16_t, uint16_t, uint16_t);
     uint64_t (*list)(const uint16_t *, size_t, uint16_t, uint16_t, uint16_t *, size_t);
+    uint64_t (*due)(const uint16_t *, size_t, uint16_t, uint16_t *, size_t);
+    uint64_t (*nearest)(const uint16_t *, size_t);
 };
 
 #define CALLS_OF(kernel) \
     {.start = kernel##_start, .sound = kernel##_sound, .tick = kernel##_tick, .enter = kernel##_enter, \
      .exit = kernel##_exit, .notify = kernel##_notify, .broadcast = kernel##_broadcast, \
      .naked = kernel##_naked, .set_priority = kernel##_set_priority, .wait = kernel##_wait, \
-     .requeue = kernel##_requeue, .list = kernel##_list}
+     .requeue = kernel##_requeue, .list = kernel##_list, .due = kernel##_due, .nearest = kernel##_nearest}
 
 static const struct calls LIBRARY = CALLS_OF(kernel), PLAIN = CALLS_OF(plain);
 
@@ -58,12 +60,16 @@ static uint8_t equal(unsigned process, unsigned processes)
 }
 
 /* The same in every run. */
+static uint32_t mixed(unsigned process)
+{
+    uint32_t number = (process + 1) * UINT32_C(2654435761);
+    return (number ^ number >> 15) * UINT32_C(2246822519);
+}
+
 static uint8_t any(unsigned process, unsigned processes)
 {
-    uint32_t mixed = (process + 1) * UINT32_C(2654435761);
     (void)processes;
-    mixed = (mixed ^ mixed >> 15) * UINT32_C(2246822519);
-    return mixed >> 13 & 7;
+    return mixed(process) >> 13 & 7;
 }
 
 static uint8_t rising(unsigned process, unsigned processes)
@@ -113,9 +119,43 @@ static bool odd_but_first(unsigned process, unsigned processes)
     return process % 2 == 1 && process != 1;
 }
 
+/* After how many ticks those who wait are due; 0 is never. */
+
+typedef uint16_t ticks(unsigned process, unsigned processes);
+
+enum { SOON = 1000 }; /* those who are not due in the next tick are due after more than so many */
+
+static uint16_t never(unsigned process, unsigned processes)
+{
+    (void)process, (void)processes;
+    return 0;
+}
+
+static uint16_t next_tick(unsigned process, unsigned processes)
+{
+    (void)process, (void)processes;
+    return 1;
+}
+
+static uint16_t in_turn(unsigned process, unsigned processes)
+{
+    (void)processes;
+    return (uint16_t)(SOON + process);
+}
+
+static uint16_t last_first(unsigned process, unsigned processes)
+{
+    return (uint16_t)(SOON + 1 + processes - process);
+}
+
+static uint16_t any_tick(unsigned process, unsigned processes)
+{
+    (void)processes;
+    return (uint16_t)(SOON + 1 + mixed(process) % 60000);
+}
+
 enum place { FIRST_CONDITION, LAST_CONDITION, EACH_CONDITION, FIRST_LOCK };
 enum order { FORWARDS, BACKWARDS };
-enum timer { NOT_DUE = 0, DUE = 1 };
 
 struct scene {
     const char *name;
@@ -123,29 +163,33 @@ struct scene {
     waits *waits;
     enum place place;       /* where they wait */
     enum order order;       /* in which they came there, by process number */
-    enum timer timer;       /* whether they are due at the next tick */
+    ticks *ticks;
     uint16_t conditions;
 };
 
 static const struct scene
-    READY = {"ready", equal, nobody, FIRST_CONDITION, FORWARDS, NOT_DUE, FEW_CONDITIONS},
-    READY_ANY = {"ready, random", any, nobody, FIRST_CONDITION, FORWARDS, NOT_DUE, FEW_CONDITIONS},
-    WAITING = {"waiting", equal, everybody, FIRST_CONDITION, FORWARDS, NOT_DUE, FEW_CONDITIONS},
-    WAITING_ANY = {"waiting, random", any, everybody, FIRST_CONDITION, FORWARDS, NOT_DUE, FEW_CONDITIONS},
-    WAITING_SPREAD = {"waiting on 255", any, everybody, EACH_CONDITION, FORWARDS, NOT_DUE, MANY_CONDITIONS},
+    READY = {"ready", equal, nobody, FIRST_CONDITION, FORWARDS, never, FEW_CONDITIONS},
+    READY_ANY = {"ready, random", any, nobody, FIRST_CONDITION, FORWARDS, never, FEW_CONDITIONS},
+    WAITING = {"waiting", equal, everybody, FIRST_CONDITION, FORWARDS, never, FEW_CONDITIONS},
+    WAITING_ANY = {"waiting, random", any, everybody, FIRST_CONDITION, FORWARDS, never, FEW_CONDITIONS},
+    WAITING_SPREAD = {"waiting on 255", any, everybody, EACH_CONDITION, FORWARDS, never, MANY_CONDITIONS},
     /* the last process holds the lock for which the others queue */
-    BLOCKED = {"blocked, random", any, all_but_last, FIRST_LOCK, FORWARDS, NOT_DUE, FEW_CONDITIONS},
-    HALF = {"half, random", any, odd_but_first, FIRST_CONDITION, FORWARDS, NOT_DUE, FEW_CONDITIONS},
+    BLOCKED = {"blocked, random", any, all_but_last, FIRST_LOCK, FORWARDS, never, FEW_CONDITIONS},
+    /* everybody waits with a timer, by the order of the timers */
+    TIMED_RISING = {"timers rising", equal, everybody, FIRST_CONDITION, FORWARDS, in_turn, FEW_CONDITIONS},
+    TIMED_FALLING = {"timers falling", equal, everybody, FIRST_CONDITION, FORWARDS, last_first, FEW_CONDITIONS},
+    TIMED_ANY = {"timers random", equal, everybody, FIRST_CONDITION, FORWARDS, any_tick, FEW_CONDITIONS},
+    HALF = {"half, random", any, odd_but_first, FIRST_CONDITION, FORWARDS, never, FEW_CONDITIONS},
     /* those who wake: one runs, and all others wait */
-    EQUAL = {"equal", equal, all_but_last, FIRST_CONDITION, FORWARDS, DUE, FEW_CONDITIONS},
-    ANY = {"random", any, all_but_last, FIRST_CONDITION, FORWARDS, DUE, FEW_CONDITIONS},
-    RISING = {"rising", rising, all_but_last, FIRST_CONDITION, FORWARDS, DUE, FEW_CONDITIONS},
-    REVERSED = {"reversed", equal, all_but_last, FIRST_CONDITION, BACKWARDS, DUE, FEW_CONDITIONS},
-    LOW_RUNNER = {"above the runner", low_runner, all_but_last, FIRST_CONDITION, BACKWARDS, DUE, FEW_CONDITIONS},
-    SPREAD = {"on all of 255", any, all_but_last, EACH_CONDITION, BACKWARDS, DUE, MANY_CONDITIONS},
-    LAST = {"on the last of 255", any, all_but_last, LAST_CONDITION, BACKWARDS, DUE, MANY_CONDITIONS},
+    EQUAL = {"equal", equal, all_but_last, FIRST_CONDITION, FORWARDS, next_tick, FEW_CONDITIONS},
+    ANY = {"random", any, all_but_last, FIRST_CONDITION, FORWARDS, next_tick, FEW_CONDITIONS},
+    RISING = {"rising", rising, all_but_last, FIRST_CONDITION, FORWARDS, next_tick, FEW_CONDITIONS},
+    REVERSED = {"reversed", equal, all_but_last, FIRST_CONDITION, BACKWARDS, next_tick, FEW_CONDITIONS},
+    LOW_RUNNER = {"above the runner", low_runner, all_but_last, FIRST_CONDITION, BACKWARDS, next_tick, FEW_CONDITIONS},
+    SPREAD = {"on all of 255", any, all_but_last, EACH_CONDITION, BACKWARDS, next_tick, MANY_CONDITIONS},
+    LAST = {"on the last of 255", any, all_but_last, LAST_CONDITION, BACKWARDS, next_tick, MANY_CONDITIONS},
     /* half are ready, and those who wake join in their midst */
-    AMIDST = {"amidst the ready", layered, odd_but_first, FIRST_CONDITION, BACKWARDS, DUE, FEW_CONDITIONS};
+    AMIDST = {"amidst the ready", layered, odd_but_first, FIRST_CONDITION, BACKWARDS, next_tick, FEW_CONDITIONS};
 
 /* A scene of a size, and copies of it, as many as a small cache holds. */
 struct bench {
@@ -156,18 +200,19 @@ struct bench {
     uint8_t priorities[MAX_PROCESSES];
     uint16_t scene[MAX_WORDS];
     uint16_t pool[12288];
-    uint16_t buffer[MAX_PROCESSES];
+    uint16_t buffer[2 * MAX_PROCESSES];
 };
 
 /* A process that is parked runs, and waits where it is to. */
 static void lay_down(struct bench *b, const struct scene *s, unsigned process)
 {
+    uint16_t ticks = s->ticks(process, b->processes);
     plain_requeue(b->scene, b->words, 1, 0, (uint16_t)process);
     plain_enter(b->scene, b->words, 1);
     if (s->place == EACH_CONDITION)
-        plain_wait(b->scene, b->words, 1, (uint16_t)(1 + process % s->conditions), s->timer);
+        plain_wait(b->scene, b->words, 1, (uint16_t)(1 + process % s->conditions), ticks);
     else if (s->place != FIRST_LOCK)
-        plain_wait(b->scene, b->words, 1, b->waited_on, s->timer);
+        plain_wait(b->scene, b->words, 1, b->waited_on, ticks);
 }
 
 static void lay_all_down(struct bench *b, const struct scene *s)
@@ -293,6 +338,21 @@ static uint64_t do_list_waiting(const struct calls *c, struct bench *b, uint16_t
     return c->list(area, b->words, 3, b->waited_on, b->buffer, b->processes);
 }
 
+static uint64_t do_due(const struct calls *c, struct bench *b, uint16_t *area)
+{
+    return c->due(area, b->words, UINT16_MAX, b->buffer, 2 * (size_t)b->processes);
+}
+
+static uint64_t do_due_soon(const struct calls *c, struct bench *b, uint16_t *area)
+{
+    return c->due(area, b->words, SOON, b->buffer, 2 * (size_t)b->processes);
+}
+
+static uint64_t do_nearest(const struct calls *c, struct bench *b, uint16_t *area)
+{
+    return c->nearest(area, b->words);
+}
+
 static const struct row {
     const char *name;
     work *work;
@@ -325,6 +385,15 @@ static const struct row {
     {"list", do_list_ready, &READY},
     {"list", do_list_ready, &READY_ANY},
     {"list", do_list_waiting, &WAITING_ANY},
+    {"due, all told", do_due, &TIMED_RISING},
+    {"due, all told", do_due, &TIMED_FALLING},
+    {"due, all told", do_due, &TIMED_ANY},
+    {"due, nobody told", do_due_soon, &TIMED_ANY},
+    {"due, nobody told", do_due, &WAITING},
+    {"nearest", do_nearest, &TIMED_RISING},
+    {"nearest", do_nearest, &TIMED_FALLING},
+    {"nearest", do_nearest, &TIMED_ANY},
+    {"nearest", do_nearest, &WAITING},
     {"broadcast to all", do_broadcast, &EQUAL},
     {"broadcast to all", do_broadcast, &ANY},
     {"broadcast to all", do_broadcast, &RISING},
@@ -380,7 +449,7 @@ static unsigned batches_of(work *w, struct bench *b)
 /* Both kernels must do the same, or the times mean nothing. */
 static bool agree(work *w, struct bench *b)
 {
-    static uint16_t area[MAX_WORDS], buffer[MAX_PROCESSES];
+    static uint16_t area[MAX_WORDS], buffer[2 * MAX_PROCESSES];
     memcpy(area, b->scene, sizeof area);
     memset(b->buffer, 0, sizeof b->buffer);
     uint64_t answer = w(&PLAIN, b, area);

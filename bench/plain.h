@@ -1,5 +1,6 @@
 /* A process kernel in plain C with the library's signatures: the baseline of the benchmarks.
- * Lengths are in elements. Answers have ten bits a field, code lowest. */
+ * Lengths are in elements. Answers have ten bits a field, code lowest; those of due and nearest
+ * have twenty. */
 #ifndef PLAIN_H
 #define PLAIN_H
 
@@ -23,5 +24,8 @@ uint64_t plain_set_priority(uint16_t *area, size_t len, uint16_t priority);
 uint64_t plain_tick(uint16_t *area, size_t len);
 uint64_t plain_list(const uint16_t *area, size_t len, uint16_t kind, uint16_t number,
                     uint16_t *buffer, size_t buffer_len);
+uint64_t plain_due(const uint16_t *area, size_t len, uint16_t ticks, uint16_t *buffer,
+                   size_t buffer_len);
+uint64_t plain_nearest(const uint16_t *area, size_t len);
 
 #endif

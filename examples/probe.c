@@ -6,7 +6,8 @@
  * the store, so a monitor lock guards it.
  *
  * How it is built: a task is a small state machine, and a step of it makes at most one call. Every answer says who runs now, and the main
- * loop steps that task next. A task that waits or queues keeps its state, and is not stepped until an answer names it again. */
+ * loop steps that task next. A task that waits or queues keeps its state, and is not stepped until an answer names it again. Where nobody
+ * runs, the probe sleeps until its earliest timer, or until a device interrupts. */
 #include <stdbool.h>
 #include <stdio.h>
 #include <stdlib.h>
@@ -30,23 +31,29 @@ static unsigned running; /* as the last answer says */
 
 /* ---- time and printing */
 
-enum { STEPS_PER_TICK = 10, TICKS = 11 };
-static unsigned now; /* in steps; printed in ticks */
+enum { STEPS_PER_TICK = 10, END = 11 * STEPS_PER_TICK };
+static unsigned now;    /* in steps; printed in ticks */
+static unsigned ticked; /* how many ticks the kernel knows of */
 
 static void tell(const char *who, const char *call, const char *outcome)
 {
     printf("%2u.%u  %-12s  %-16s  %s", now / STEPS_PER_TICK, now % STEPS_PER_TICK, who, call, outcome);
 }
 
-/* Every answer comes by here, with what its mark means. No call below is refused while the probe's memory is whole; where one is, a real
- * probe begins again with kernel_start. */
-static bool called(const char *who, const char *call, uint64_t answer, const char *marked, const char *unmarked)
+/* No call below is refused while the probe's memory is whole; where one is, a real probe begins again with kernel_start. */
+static void check(const char *who, const char *call, unsigned code)
 {
-    if (KERNEL_CODE(answer) != KERNEL_OK) {
+    if (code != KERNEL_OK) {
         tell(who, call, "refused");
-        printf(" with code %u\n", KERNEL_CODE(answer));
+        printf(" with code %u\n", code);
         exit(EXIT_FAILURE);
     }
+}
+
+/* Every answer that says who runs comes by here, with what its mark means. */
+static bool called(const char *who, const char *call, uint64_t answer, const char *marked, const char *unmarked)
+{
+    check(who, call, KERNEL_CODE(answer));
     tell(who, call, KERNEL_MARK(answer) == 1 ? marked : unmarked);
     if (KERNEL_MOVED(answer) > 0)
         printf(", %u made ready", KERNEL_MOVED(answer));
@@ -83,7 +90,7 @@ static bool wait_for(const char *call, uint16_t condition, uint16_t ticks)
 
 static const struct reading {
     unsigned steps, celsius;
-} READINGS[] = {{5, 58}, {28, 61}, {5, 63}};
+} READINGS[] = {{5, 58}, {33, 61}, {5, 63}};
 
 static struct {
     unsigned asked, due;
@@ -147,7 +154,7 @@ static void sampler(void)
         state = REST;
         break;
     case REST:
-        wait_for("wait pause 2", PAUSE, 2);
+        wait_for("wait pause 3", PAUSE, 3);
         state = BEGIN;
         break;
     }
@@ -221,17 +228,34 @@ static void housekeeping(void)
     }
 }
 
-/* Nobody runs: the processor rests until an interrupt. */
+/* Nobody runs: the probe sleeps as many ticks as the nearest timer has left, unless a device interrupts before. The clock counts on, but
+ * does not interrupt until then. In a real probe this sets the clock's alarm, and interrupts are masked from the question to the
+ * instruction that sleeps, which ends at an interrupt even so. */
 static void nobody(void)
 {
+    uint64_t answer = kernel_nearest(area, WORDS);
+    check("probe", "nearest", KERNEL_NEAREST_CODE(answer));
+    uint32_t left = KERNEL_NEAREST_TICKS(answer);
+    unsigned alarm = END;
+    if (left == 0) {
+        tell("probe", "nearest", "sleeps, no timer is set\n");
+    } else {
+        tell("probe", "nearest", "");
+        printf("sleeps until %s is due, ticks left: %u\n", NAMES[KERNEL_NEAREST_PROCESS(answer)], (unsigned)left);
+        alarm = (ticked + left) * STEPS_PER_TICK;
+    }
+    while (now + 1 < END && now + 1 != alarm && now + 1 != converter.due)
+        now++;
 }
 
 /* ---- interrupts; in a real probe their handlers make these calls, and interrupts are masked around every call */
 
 static void interrupts(void)
 {
-    if (now % STEPS_PER_TICK == 0)
+    while (ticked < now / STEPS_PER_TICK) { /* those that were slept come first, whoever interrupts */
+        ticked++;
         called("clock", "tick", kernel_tick(area, WORDS), "", "a tick");
+    }
     if (converter.asked > 0 && now == converter.due) {
         converter.done = true;
         called("converter", "naked converted", kernel_naked(area, WORDS, CONVERTED), "nobody waits, wakeup kept", "a reading");
@@ -246,7 +270,7 @@ int main(void)
     printf("tick  who           call              what comes of it\n");
     called("probe", "start", kernel_start(area, WORDS, PROCESSES, LOCKS, CONDITIONS, PARKS, PRIORITIES, sizeof PRIORITIES), "",
            "all ready");
-    for (now = 1; now < TICKS * STEPS_PER_TICK; now++) {
+    for (now = 1; now < END; now++) {
         interrupts();
         STEPS[running]();
     }

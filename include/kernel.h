@@ -15,11 +15,12 @@
  * word of the area beyond its size (KERNEL_AREA_WORDS) and writes none. Calls on one area must not run at the same time: mask
  * interrupts around a call, or make every call from one place.
  *
- * Time: a call first checks the area, every process and every queue once. What it does beyond that is at worst linear, whatever the
- * priorities, the order and the number of those who wake. In steps from a process to the next of its queue, with P processes and C
- * conditions: P for enter, exit, wait, notify, naked, set_priority and broadcast; 2 P for requeue, which looks for the process first;
- * P + C for a tick at which somebody is due, with two passes over the P timers, and one pass over these where nobody is; P for list,
- * 2 P into a buffer of fewer than P words. README.md has measured times.
+ * Time: a call first checks the area, every process and every queue once. What it does beyond that is at worst linear, but for due, which
+ * sorts, whatever the priorities, the order and the number of those who wake. In steps from a process to the next of its queue, with P
+ * processes and C conditions: P for enter, exit, wait, notify, naked, set_priority and broadcast; 2 P for requeue, which looks for the
+ * process first; P + C for a tick at which somebody is due, with two passes over the P timers, and one pass over these where nobody is;
+ * P for list, 2 P into a buffer of fewer than P words. nearest takes one pass over the timers; due takes one where nobody is due, else
+ * two, and about n log n steps to sort the n that it tells. README.md has measured times.
  *
  * A call takes less than 416 bytes of stack (320 measured at most, on x86-64). */
 #ifndef KERNEL_H
@@ -44,6 +45,16 @@ extern "C" {
 
 /* kernel_list answers two: the code, and */
 #define KERNEL_COUNT(a) ((unsigned)((a) >> 10 & 1023u))     /* how many processes were written */
+
+/* kernel_due and kernel_nearest answer twenty bits a field. The macros above are not for their answers: KERNEL_COUNT, say, would always
+ * find 0 there. kernel_due answers two fields: */
+#define KERNEL_DUE_CODE(a) ((unsigned)((a) & 0xFFFFFu))
+#define KERNEL_DUE_COUNT(a) ((unsigned)((a) >> 20 & 0xFFFFFu))       /* how many processes were told, two words each */
+
+/* kernel_nearest answers three: */
+#define KERNEL_NEAREST_CODE(a) ((unsigned)((a) & 0xFFFFFu))
+#define KERNEL_NEAREST_PROCESS(a) ((unsigned)((a) >> 20 & 0xFFFFFu)) /* 0 if no timer is set */
+#define KERNEL_NEAREST_TICKS(a) ((uint32_t)((a) >> 40 & 0xFFFFFu))   /* 1 to 65,536, too wide for a uint16_t; 0 if no timer is set */
 
 /* ---- codes, in the order in which each call tests them as listed there */
 
@@ -115,6 +126,20 @@ uint64_t kernel_tick(uint16_t *area, size_t len);
 /* Writes one queue, first to last, to the front of buffer; the rest of it stays. kind 0 is ready (number 0), 1 a park, 2 a lock, 3 a
  * condition. Codes: 1, 7, 5. */
 uint64_t kernel_list(const uint16_t *area, size_t len, uint16_t kind, uint16_t number, uint16_t *buffer, size_t buffer_len);
+
+/* The two reads of timers. The ticks left of a process that waits with a timer are how many ticks from now it wakes, 1 to 65,536: if no
+ * call but kernel_tick changes the area, with d left it wakes in the d-th tick and in no earlier one. Neither read changes the area. */
+
+/* Writes who is due within this many ticks to the front of buffer; the rest of it stays. Two words for each process: its number, then
+ * its ticks left. Fewer ticks left come first, and of equals the lower number. Two words for every process of the area always suffice:
+ * uint16_t buffer[2 * PROCESSES]. Who has 65,536 left, a full round of the clock (a wait of 65,535 ticks at clock 1), is never told.
+ * Codes: 1, 5 (fewer than two words for each process told). */
+uint64_t kernel_due(const uint16_t *area, size_t len, uint16_t ticks, uint16_t *buffer, size_t buffer_len);
+
+/* The process with the fewest ticks left, the lowest number of equals, and these ticks; a full round is seen too. So long a probe may
+ * sleep in which nobody runs: no tick before moves anybody. Where no timer is set it answers 0 and 0, and no tick moves anybody at all.
+ * Another call, from an interrupt handler say, may change this: ask again then. Code: 1. */
+uint64_t kernel_nearest(const uint16_t *area, size_t len);
 
 #ifdef __cplusplus
 }

@@ -5,7 +5,7 @@ use std::env;
 use std::path::{Path, PathBuf};
 use std::process::Command;
 
-const EXPORTS: [&str; 12] = [
+const EXPORTS: [&str; 14] = [
     "kernel_start",
     "kernel_sound",
     "kernel_enter",
@@ -18,6 +18,8 @@ const EXPORTS: [&str; 12] = [
     "kernel_set_priority",
     "kernel_tick",
     "kernel_list",
+    "kernel_due",
+    "kernel_nearest",
 ];
 
 fn main() {

@@ -75,3 +75,11 @@ pub fn pack(fields: &[u16]) -> u64 {
         number * 1024 + u64::from(field)
     })
 }
+
+/// Fields as one number, twenty bits each, the first lowest.
+pub fn pack_wide(fields: &[u32]) -> u64 {
+    fields.iter().rev().fold(0, |number, &field| {
+        assert!(field < 1_048_576);
+        number * 1_048_576 + u64::from(field)
+    })
+}

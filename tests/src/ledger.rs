@@ -104,6 +104,19 @@ impl Ledger {
         matches!(self.lies(process), Place::Condition(_))
     }
 
+    /// Who waits with a timer, each with its ticks left, the earliest first, equals by number.
+    pub fn timed(&self) -> Vec<(u16, u32)> {
+        let mut timed: Vec<(u16, u32)> = (1..=self.processes)
+            .filter(|&process| self.timer[process as usize] != 0 && self.waiting(process))
+            .map(|process| {
+                let behind = self.timer[process as usize].wrapping_sub(self.clock);
+                (process, if behind == 0 { 65_536 } else { behind as u32 })
+            })
+            .collect();
+        timed.sort_by_key(|entry| entry.1);
+        timed
+    }
+
     /// Adds a note; answers 1 if the process came into ready from another queue.
     fn note(&mut self, process: u16, place: Place) -> u16 {
         let before = self.lies(process);

@@ -37,6 +37,14 @@ extern "C" {
         buffer: *mut u16,
         buffer_len: usize,
     ) -> u64;
+    fn kernel_due(
+        area: *const u16,
+        len: usize,
+        ticks: u16,
+        buffer: *mut u16,
+        buffer_len: usize,
+    ) -> u64;
+    fn kernel_nearest(area: *const u16, len: usize) -> u64;
 }
 
 pub fn sound(area: &[u16]) -> u64 {
@@ -54,6 +62,22 @@ pub fn list(area: &[u16], kind: u16, number: u16, buffer: &mut [u16]) -> u64 {
             buffer.len(),
         )
     }
+}
+
+pub fn due(area: &[u16], ticks: u16, buffer: &mut [u16]) -> u64 {
+    unsafe {
+        kernel_due(
+            area.as_ptr(),
+            area.len(),
+            ticks,
+            buffer.as_mut_ptr(),
+            buffer.len(),
+        )
+    }
+}
+
+pub fn nearest(area: &[u16]) -> u64 {
+    unsafe { kernel_nearest(area.as_ptr(), area.len()) }
 }
 
 /// Does a call, and answers its packed answer.

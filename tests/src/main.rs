@@ -39,6 +39,7 @@ fn suites() -> Vec<Suite> {
         ("sound", suites::sound::run),
         ("calls", suites::calls::run),
         ("list", suites::list::run),
+        ("due and nearest", suites::timers::run),
         ("rehearse", suites::rehearse::run),
     ]
 }

@@ -781,3 +781,60 @@ pub fn list(area: &[u16], kind: u16, number: u16, buffer: &mut [u16]) -> (u16, u
     buffer[..members.len()].copy_from_slice(members);
     (0, members.len() as u16)
 }
+
+// Reads of the timers.
+
+/// A process that waits with a timer, and its ticks left.
+#[derive(Clone, Copy, PartialEq, Eq, Debug, Default)]
+pub struct Timed {
+    pub process: u16,
+    pub left: u32,
+}
+
+fn left(clock: u16, timer: u16) -> u32 {
+    let (clock, timer) = (u32::from(clock), u32::from(timer));
+    if timer > clock {
+        timer - clock
+    } else {
+        65_536 - (clock - timer)
+    }
+}
+
+impl State {
+    /// All who wait with a timer, by their ticks left and then by number.
+    pub fn timed(&self) -> Vec<Timed> {
+        let mut all = Vec::new();
+        for process in 1..=self.shape.processes {
+            let record = self.record(process);
+            if record.waiting && record.timer != 0 {
+                let left = left(self.clock, record.timer);
+                all.push(Timed { process, left });
+            }
+        }
+        all.sort_by_key(|timed| (timed.left, timed.process));
+        all
+    }
+}
+
+/// Nearest: the first of all who are timed; zeros if there is none.
+pub fn nearest(timed: &[Timed]) -> Timed {
+    timed.first().copied().unwrap_or_default()
+}
+
+/// Due: those of all who are timed that have at most so many ticks left, two words each;
+/// answers code and count.
+pub fn due(timed: &[Timed], ticks: u16, buffer: &mut [u16]) -> (u32, u32) {
+    let told: Vec<Timed> = timed
+        .iter()
+        .filter(|timed| timed.left <= u32::from(ticks))
+        .copied()
+        .collect();
+    if buffer.len() < 2 * told.len() {
+        return (5, 0);
+    }
+    for (place, timed) in told.iter().enumerate() {
+        buffer[2 * place] = timed.process;
+        buffer[2 * place + 1] = timed.left as u16;
+    }
+    (0, told.len() as u32)
+}

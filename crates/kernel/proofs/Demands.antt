@@ -12,26 +12,37 @@ use Rattle.area.specs.Reading.{Agree}
 use Rattle.area.specs.Sound.{Sound}
 use Rattle.area.proofs.Agreeing.{agree-back, sound-same}
 use Rattle.start.specs.Start.{Starts}
-use Rattle.queues.specs.declared.listing.Listed.{Listed}
-use Rattle.monitor.specs.Calls.{Performs, ListsOn}
-use Rattle.monitor.specs.Wire.{packed, answerOf, listedOf}
+use Rattle.monitor.specs.Calls.{Performs, ListsOn, TellsOn, NearestOn}
+use Rattle.monitor.specs.Wire.{packed, answerOf, listedOf, dueOf, nearestOf}
 use Rattle.monitor.specs.History.{Run}
 use Rattle.monitor.specs.History.Run.{none, then}
 use Rattle.monitor.proofs.History.{run-ends}
-use Rattle.monitor.proofs.Promises.{performs-spares, starts-spares, lists-spares, performs-keeps, starts-keeps, performs-alike, lists-alike, starts-alike, read-answer, read-listed}
-use Rattle.kernel.specs.Exports.{Conveys, Crosses, Begins, Writes, Judges}
+use Rattle.monitor.proofs.Wire.{read-answer, read-listed, read-due, read-nearest}
+use Rattle.monitor.proofs.Promises.{performs-spares, starts-spares, performs-keeps, starts-keeps, performs-alike, starts-alike}
+use Rattle.monitor.proofs.Readings.{lists-spares, lists-alike, tells-spares, tells-alike, nearest-spares, nearest-alike}
+use Rattle.kernel.specs.Exports.{Conveys, Crosses, Begins, Writes, Dues, Nears, Judges}
 use Rattle.kernel.specs.Demands.{Demand1, Demand2, Demand3, Beyond}
 
 -- ---- what is read back keeps the promise
 
+-- whatever answer it is
+kept : {A : Type 0} {w : ℕ} {fields : A → List ℕ} {P : A → Type 0} {r : ℕ} (C : Conveys w fields P r) {a : A} → C .answer ≡ a → P a
+kept {P = P} C e = subst P e (C .keeps)
+
 crossed : {c : Call} {old new : List ℕ} {r : ℕ} → Crosses c old new r → Performs c old new (answerOf r)
-crossed {c} {old} {new} C = subst (λ (a : Answer). Performs c old new a) (read-answer (C .carries)) (C .keeps)
+crossed C = kept C (read-answer (C .carries))
 
 begun : {n : Shape} {bytes old new : List ℕ} {r : ℕ} → Begins n bytes old new r → Starts n bytes old new (answerOf r)
-begun {n} {bytes} {old} {new} B = subst (λ (a : Answer). Starts n bytes old new a) (read-answer (B .carries)) (B .keeps)
+begun C = kept C (read-answer (C .carries))
 
 listed : {kind number : ℕ} {ws old new : List ℕ} {r : ℕ} → Writes kind number ws old new r → ListsOn kind number ws old new (listedOf r)
-listed {kind} {number} {ws} {old} {new} W = subst (λ (l : Listed). ListsOn kind number ws old new l) (read-listed (W .carries)) (W .keeps)
+listed C = kept C (read-listed (C .carries))
+
+told : {k : ℕ} {ws old new : List ℕ} {r : ℕ} → Dues k ws old new r → TellsOn k ws old new (dueOf r)
+told C = kept C (read-due (C .carries))
+
+neared : {ws : List ℕ} {r : ℕ} → Nears ws r → NearestOn ws (nearestOf r)
+neared C = kept C (read-nearest (C .carries))
 
 -- numbers of the same answer are the same
 same-number : {A : Type 0} {w : ℕ} {fields : A → List ℕ} {P Q : A → Type 0} {r s : ℕ} (C : Conveys w fields P r) (D : Conveys w fields Q s) → C .answer ≡ D .answer → r ≡ s
@@ -49,15 +60,19 @@ pub demand1 : Demand1
 demand1 = record {
   unsound-call = λ C u. crossed C .unsound u;
   unsound-list = λ W u. listed W .unsound u;
+  unsound-due = λ D u. told D .unsound u;
+  unsound-nearest = λ N u. neared N .unsound u;
   unsound-sound = not-sound;
   overwrites = λ B D la lb. let s = starts-alike la lb (B .keeps) (D .keeps) in (same-number B D (s .0), λ z. s .1 (ap {A = Answer} (λ a. a .code) (read-answer (B .carries)) ∙ z));
   refused-call = λ C. performs-spares (crossed C);
   refused-start = λ B. starts-spares (begun B);
   refused-list = λ W. lists-spares (listed W);
+  refused-due = λ D. tells-spares (told D);
+  refused-nearest = λ N. nearest-spares (neared N);
 }
 
 pub demand2 : Demand2
-demand2 = record { call = crossed; start = begun; list = listed; sound = λ J. J .says }
+demand2 = record { call = crossed; start = begun; list = listed; due = told; nearest = neared; sound = λ J. J .says }
 
 pub run-crossed : {cs : List Call} {old new : List ℕ} {rs : List ℕ} → Run Crosses cs old new rs → Run Performs cs old new (map answerOf rs)
 run-crossed none = none
@@ -81,5 +96,7 @@ beyond = record {
   kept-start = λ B. starts-keeps (B .keeps);
   call = λ A C D. let p = performs-alike A (C .keeps) (D .keeps) in (same-number C D (p .0), p .1);
   list = λ A C D. let p = lists-alike A (C .keeps) (D .keeps) in (same-number C D (p .0), p .1);
+  due = λ A C D. let p = tells-alike A (C .keeps) (D .keeps) in (same-number C D (p .0), p .1);
+  nearest = λ A C D. same-number C D (nearest-alike A (C .keeps) (D .keeps));
   sound = judged-alike;
 }

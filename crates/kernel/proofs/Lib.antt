@@ -1,2 +1,3 @@
 pub mod Packing
 pub mod Demands
+pub mod OnTime

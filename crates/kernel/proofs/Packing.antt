@@ -1,4 +1,4 @@
--- What the exports promise: an answer that keeps its promise has fields of ten bits, so it comes back out of its number. Assumes nothing.
+-- What the exports promise: an answer that keeps its promise has fields of so many bits, so it comes back out of its number. Assumes nothing.
 use Prim.Native.Nat.{ℕ}
 use native.Mathlib.Omega.{arith}
 use mathlib.Core.Path.{_≡_, refl, sym, _∙_}
@@ -11,11 +11,14 @@ use Rattle.model.specs.Machine.{fieldsOf}
 use Rattle.area.specs.Sound.{Sound}
 use Rattle.start.specs.Start.{Starts}
 use Rattle.queues.specs.declared.listing.Listed.{Listed}
-use Rattle.monitor.specs.Calls.{Performs, ListsOn}
-use Rattle.monitor.specs.Wire.{packed, Carries, listFields, numberOf}
+use Rattle.timers.specs.declared.Told.{Told}
+use Rattle.timers.specs.declared.Earliest.{Earliest}
+use Rattle.monitor.specs.Calls.{Performs, ListsOn, TellsOn, NearestOn}
+use Rattle.monitor.specs.Wire.{packed, Carries, listFields, dueFields, nearestFields, numberOf}
 use Rattle.monitor.proofs.Wire.{Fit, carries}
-use Rattle.monitor.proofs.Promises.{performs-fits, starts-fits, lists-fits}
-use Rattle.kernel.specs.Exports.{Conveys, Crosses, Begins, Writes, Judges}
+use Rattle.monitor.proofs.Promises.{performs-fits, starts-fits}
+use Rattle.monitor.proofs.Readings.{lists-fits, tells-fits, nearest-fits}
+use Rattle.kernel.specs.Exports.{Conveys, Crosses, Begins, Writes, Dues, Nears, Judges}
 
 -- an export's contract, whatever the call: from what is promised of the answer, and the answer's number
 conveys : {A : Type 0} {w r : ℕ} (fields : A → List ℕ) {promised : A → Type 0} (a : A) → promised a → r ≡ packed w (fields a) → Fit w (fields a) → Conveys w fields promised r
@@ -33,6 +36,12 @@ begins {a = a} S e = conveys fieldsOf a S e (starts-fits S)
 
 pub writes : {kind number : ℕ} {ws old new : List ℕ} {l : Listed} {r : ℕ} → ListsOn kind number ws old new l → r ≡ packed 10 (listFields l) → Writes kind number ws old new r
 writes {l = l} L e = conveys listFields l L e (lists-fits L)
+
+pub dues : {k : ℕ} {ws old new : List ℕ} {a : Told} {r : ℕ} → TellsOn k ws old new a → r ≡ packed 20 (dueFields a) → Dues k ws old new r
+dues {a = a} T e = conveys dueFields a T e (tells-fits T)
+
+pub nears : {ws : List ℕ} {a : Earliest} {r : ℕ} → NearestOn ws a → r ≡ packed 20 (nearestFields a) → Nears ws r
+nears {a = a} N e = conveys nearestFields a N e (nearest-fits N)
 
 pub judges-yes : {ws : List ℕ} (b : Bool) → (b ≡ true → Sound ws) × (Sound ws → b ≡ true) → b ≡ true → Judges ws 1
 judges-yes b h e = record { says = (λ z. h .0 e, λ S. refl); bit = omega arith }

@@ -11,7 +11,7 @@ ghost use Rattle.model.specs.declared.Call.the-variants.{Enter, Exit, Wait, Not
 ghost use Rattle.model.specs.Machine.{fieldsOf};
 ghost use Rattle.monitor.specs.Calls.{Performs};
 ghost use Rattle.monitor.specs.Wire.{Carries};
-ghost use Rattle.kernel.specs.Exports.{Crosses, Begins, Judges, Writes};
+ghost use Rattle.kernel.specs.Exports.{Crosses, Begins, Judges, Writes, Dues, Nears};
 
 // ---- Start and Sound
 
@@ -123,11 +123,25 @@ pub extern "C" fn kernel_tick(area: &mut [u16]) -> u64
     cross(monitor::tick(area))
 }
 
-// ---- List
+// ---- reads
 
 #[no_mangle]
 pub extern "C" fn kernel_list(area: &[u16], kind: u16, number: u16, buffer: &mut [u16]) -> u64
     ensures { λ r. ⌜ Writes kind number (now (area .entry)) (now (buffer .entry)) (now (buffer .exit)) r ⌝ }
 {
     monitor::pack_list(monitor::list(area, kind, number, buffer))
+}
+
+#[no_mangle]
+pub extern "C" fn kernel_due(area: &[u16], ticks: u16, buffer: &mut [u16]) -> u64
+    ensures { λ r. ⌜ Dues ticks (now (area .entry)) (now (buffer .entry)) (now (buffer .exit)) r ⌝ }
+{
+    monitor::pack_due(monitor::due(area, Ticks(ticks), buffer))
+}
+
+#[no_mangle]
+pub extern "C" fn kernel_nearest(area: &[u16]) -> u64
+    ensures { λ r. ⌜ Nears (now (area .entry)) r ⌝ }
+{
+    monitor::pack_nearest(monitor::nearest(area))
 }

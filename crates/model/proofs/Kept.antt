@@ -37,7 +37,7 @@ firstOnly-length : (xs : List ℕ) → length (firstOnly xs) ≤ length xs
 firstOnly-length [] = omega arith
 firstOnly-length (x ∷ xs) = omega arith
 
-upTo-length : (k : ℕ) → length (upTo k) ≡ k
+pub upTo-length : (k : ℕ) → length (upTo k) ≡ k
 upTo-length zero = refl
 upTo-length (suc k) = let e = upTo-length k in rw (length-append (upTo k) (suc k ∷ [])) (omega arith)
 

@@ -12,3 +12,4 @@ pub mod History
 pub mod Loops
 pub mod Many
 pub mod Rules
+pub mod Ticking

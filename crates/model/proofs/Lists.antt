@@ -204,6 +204,15 @@ at-most (suc n) xs h =
     go p (holds d e) = rw (← d, count-remove-same (suc n) xs) (omega arith)
     go p (fails d e) = rw (count-remove-other p (suc n) xs d, ← (inside-suc n p (λ z. d (sym z)))) (h p)
 
+-- those of one list, and then those of another
+pub filter-append : (t : ℕ → Bool) (xs ys : List ℕ) → filter t (xs ++ ys) ≡ filter t xs ++ filter t ys
+filter-append t [] ys = refl
+filter-append t (x ∷ xs) ys = rw (filter-append t xs ys) (go (t x))
+  where
+    go : (b : Bool) → cond b (x ∷ (filter t xs ++ filter t ys)) (filter t xs ++ filter t ys) ≡ cond b (x ∷ filter t xs) (filter t xs) ++ filter t ys
+    go true = refl
+    go false = refl
+
 pub filter-length : (t : ℕ → Bool) (xs : List ℕ) → length (filter t xs) ≤ length xs
 filter-length t [] = omega arith
 filter-length t (x ∷ xs) = go (t x) (filter-length t xs)

@@ -134,7 +134,7 @@ relocate-real n (x ∷ ps) place p h = relocate-real n ps (sent place (x, ready)
     go true = refl
     go false = h
 
-ready-movers : (P : ℕ) (xs : List ℕ) → ((p : ℕ) → member p xs ≡ true → inside P p ≡ true) → Movers P (toReady xs)
+pub ready-movers : (P : ℕ) (xs : List ℕ) → ((p : ℕ) → member p xs ≡ true → inside P p ≡ true) → Movers P (toReady xs)
 ready-movers P [] h = tt
 ready-movers P (x ∷ xs) h = (h x (member-here x xs), ready-movers P xs (λ p m. h p (member-there p x xs m)))
 

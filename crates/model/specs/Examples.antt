@@ -2,7 +2,9 @@
 use Prim.Native.Nat.{ℕ}
 use native.Mathlib.Decide.{ℕ-discrete}
 use mathlib.Core.Path.{refl}
+use mathlib.Core.Bool.{cond}
 use mathlib.Core.List.{List, [], _∷_, _++_, map}
+use lib.Dec.{eqb}
 use Rattle.model.specs.declared.Shape.{Shape}
 use Rattle.model.specs.declared.Call.{Call}
 use Rattle.model.specs.declared.Call.the-variants.{Enter, Exit, Wait, Notify, Broadcast, Naked, Requeue, SetPriority, Tick}
@@ -10,9 +12,10 @@ use Rattle.model.specs.Queue.{Queue}
 use Rattle.model.specs.Queue.Queue.{ready, park, lock, condition}
 use Rattle.model.specs.Field.{Field, put, priorities}
 use Rattle.model.specs.Field.Field.{clock, running, priority, timer, failed, holder, wakeup}
-use Rattle.model.specs.Rules.{when, choose, nakedly, decide, startCode}
+use Rattle.model.specs.Rules.{when, choose, nakedly, decide, startCode, fresh}
 use Rattle.model.specs.Machine.{Machine, State, model, fieldsOf, start, step, after, answers}
 use Rattle.model.specs.Ledger.{ledger, reading}
+use Rattle.model.specs.Timers.{Entry, left, dueWithin}
 use Rattle.model.specs.Table.{Row, Holds}
 
 -- ---- a script: calls with their answers; then queues and fields as they must be left
@@ -294,3 +297,37 @@ scripts M =
 both-machines : Holds (starting ∷ scripts model ++ scripts ledger)
 unfolding step decide when choose nakedly reading ℕ-discrete
 both-machines = refl
+
+-- ---- who is due
+
+-- five processes at clock 1: 1 and 4 wait on condition 1, 2 and 3 on condition 2, and 5 runs; the timers of 1, 2 and 3 are 5, t and 3
+abbrev places : Queue → List ℕ
+places ready = 5 ∷ []
+places (park k) = []
+places (lock l) = []
+places (condition c) = cond (eqb c 1) (1 ∷ 4 ∷ []) (cond (eqb c 2) (2 ∷ 3 ∷ []) [])
+
+abbrev timed : ℕ → State model
+timed t = record { fields = put clock 1 (put (timer 1) 5 (put (timer 2) t (put (timer 3) 3 (fresh [])))); queues = places }
+
+-- who is told within k ticks, each with its ticks left
+abbrev dueRow : State model → ℕ → List Entry → Row
+dueRow s k es =
+    record { come = map (λ (e : Entry). e .0 ∷ e .1 ∷ []) (dueWithin (sized 5 1 2 0) s k); must = map (λ (e : Entry). e .0 ∷ e .1 ∷ []) es }
+
+-- the ticks left of 1 to 5
+abbrev leftRow : State model → List ℕ → Row
+leftRow s ds = record { come = map (λ p. left (sized 5 1 2 0) s p) (1 ∷ 2 ∷ 3 ∷ 4 ∷ 5 ∷ []) ∷ []; must = ds ∷ [] }
+
+-- by ticks left and then by number; a timer at the clock has a full round left, and is not told
+who-is-due : Holds (
+    leftRow (timed 3) (4 ∷ 2 ∷ 2 ∷ 0 ∷ 0 ∷ [])
+    ∷ leftRow (timed 1) (4 ∷ 65536 ∷ 2 ∷ 0 ∷ 0 ∷ [])
+    ∷ dueRow (timed 3) 0 []
+    ∷ dueRow (timed 3) 1 []
+    ∷ dueRow (timed 3) 2 ((2, 2) ∷ (3, 2) ∷ [])
+    ∷ dueRow (timed 3) 4 ((2, 2) ∷ (3, 2) ∷ (1, 4) ∷ [])
+    ∷ dueRow (timed 1) 9 ((3, 2) ∷ (1, 4) ∷ [])
+    ∷ [])
+unfolding dueWithin ℕ-discrete
+who-is-due = refl

@@ -4,6 +4,7 @@ pub mod Rules
 pub mod Machine
 pub mod Ledger
 pub mod Valid
+pub mod Timers
 pub mod History
 pub mod Table
 pub mod Examples

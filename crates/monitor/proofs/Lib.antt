@@ -2,3 +2,5 @@ pub mod Performs
 pub mod Wire
 pub mod History
 pub mod Promises
+pub mod Readings
+pub mod Ticks

@@ -21,7 +21,10 @@ use Rattle.area.proofs.States.{sound-image}
 use Rattle.area.specs.Calls.{Stands, Does}
 use Rattle.queues.specs.declared.listing.Listed.{Listed}
 use Rattle.queues.specs.Listing.{Lists}
-use Rattle.monitor.specs.Calls.{Performs, ListsOn}
+use Rattle.timers.specs.declared.Told.{Told}
+use Rattle.timers.specs.declared.Earliest.{Earliest}
+use Rattle.timers.specs.Telling.{Tells, nearestIn}
+use Rattle.monitor.specs.Calls.{Performs, ListsOn, TellsOn, NearestOn}
 
 -- an area that has become one of a state is every word of it
 pub becomes-write : {n : Shape} {old new : List ℕ} {s : State model} → Becomes n old new s → new ≡ write n s old
@@ -56,6 +59,12 @@ module _ {old : List ℕ} {r : Bool} (h : Checked old r) (k : not r ≡ true) wh
   pub lists-not : {kind number : ℕ} {buffer : List ℕ} {l : Listed} → l .code ≡ 1 → l .count ≡ 0 → ListsOn kind number old buffer buffer l
   lists-not c d = record { unsound = λ z. record { code = c; count = d; buffer = refl }; sound = λ S. absurd (not-sound S) }
 
+  pub tells-not : {ticks : ℕ} {buffer : List ℕ} {t : Told} → t .code ≡ 1 → t .count ≡ 0 → TellsOn ticks old buffer buffer t
+  tells-not c d = record { unsound = λ z. record { code = c; count = d; buffer = refl }; sound = λ S. absurd (not-sound S) }
+
+  pub nearest-not : {e : Earliest} → e ≡ record { code = 1; process = 0; left = 0 } → NearestOn old e
+  nearest-not d = record { unsound = λ z. d; sound = λ S. absurd (not-sound S) }
+
 -- the check said yes
 module _ {old : List ℕ} {r : Bool} (h : Checked old r) (k : not r ≡ false) where
   checked : Sound old
@@ -76,6 +85,12 @@ module _ {old : List ℕ} {r : Bool} (h : Checked old r) (k : not r ≡ false) w
 
     pub lists-at : {kind number : ℕ} {buffer new : List ℕ} {l : Listed} → ((s : State model) → Holds n old s → Lists kind number n s buffer new l) → ListsOn kind number old buffer new l
     lists-at d = record { unsound = λ z. absurd (z checked); sound = λ z. (rw said at d) (stateOf old) (own-holds checked) }
+
+    pub tells-at : {ticks : ℕ} {buffer new : List ℕ} {t : Told} → ((s : State model) → Holds n old s → Valid n s → Tells ticks n s buffer new t) → TellsOn ticks old buffer new t
+    tells-at d = record { unsound = λ z. absurd (z checked); sound = λ z. (rw said at d) (stateOf old) (own-holds checked) (checked .valid) }
+
+    pub nearest-at : {e : Earliest} → ((s : State model) → Holds n old s → Valid n s → e ≡ nearestIn n s) → NearestOn old e
+    nearest-at d = record { unsound = λ z. absurd (z checked); sound = λ z. (rw said at d) (stateOf old) (own-holds checked) (checked .valid) }
 
 -- ---- a call known by what it is
 

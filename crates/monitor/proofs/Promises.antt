@@ -1,11 +1,10 @@
--- What follows from the promises of a call, of Start and of List alone: a refusal spares the words, the words beyond the size are neither read
--- nor changed, and each field of an answer has ten bits, so that the answer comes back out of its number. Assumes nothing.
+-- What follows from the promises of a call and of Start alone: a refusal spares the words, the words beyond the size are neither read nor
+-- changed, and each field of an answer has ten bits. Assumes nothing.
 use Prim.Native.Nat.{ℕ, _^_, _≤_, _<_}
-use native.Mathlib.Nat.{div-div-eq-div-mul}
 use native.Mathlib.Decide.{ℕ-discrete, decLt}
 use native.Mathlib.Omega.{arith}
-use mathlib.Core.Path.{_≡_, refl, sym, ap, _∙_, subst}
-use mathlib.Core.Logic.{_≢_, Dec·and}
+use mathlib.Core.Path.{_≡_, refl, sym, ap, _∙_}
+use mathlib.Core.Logic.{Dec·and}
 use mathlib.Core.Bool.{Bool, true, false, not, cond}
 use mathlib.Core.List.{List, [], _∷_, map}
 use lib.Dec.{eqb, ltb}
@@ -19,7 +18,6 @@ use Rattle.model.specs.Machine.{State, model, fieldsOf, step, start, refusal}
 use Rattle.model.proofs.Tests.{EqCase, holds, fails, eqb-case}
 use Rattle.model.proofs.Rules.{refused-stays}
 use Rattle.model.proofs.Kept.{Small, step-small, start-small, start-valid}
-use Rattle.model.proofs.Places.{queue-length}
 use Rattle.area.specs.Layout.{word, slots, size}
 use Rattle.area.specs.State.{laid, write}
 use Rattle.area.specs.Reading.{shapeOf, stateOf, Agree}
@@ -28,22 +26,19 @@ use Rattle.area.proofs.Whole.{counts-in, write-below, write-beyond}
 use Rattle.area.proofs.States.{sound-write}
 use Rattle.area.proofs.Agreeing.{shape-same, state-same, agree-back, sound-same}
 use Rattle.start.specs.Start.{startOn, Starts}
-use Rattle.queues.specs.declared.listing.Listed.{Listed}
-use Rattle.queues.specs.Listing.{queueBy, isQueue, Unlisted, Written, Lists}
-use Rattle.monitor.specs.Calls.{Performs, ListsOn, Spares}
-use Rattle.monitor.specs.Wire.{unpacked, Carries, listFields, answerOf, listedOf}
-use Rattle.monitor.proofs.Wire.{Fit}
+use Rattle.monitor.specs.Calls.{Performs, Spares}
+use Rattle.monitor.proofs.Wire.{Fit, answerFrom}
 use Rattle.monitor.proofs.History.{start-accepted}
 
 -- ---- by cases on soundness, where what is to be shown can be decided
 
-settle : {S X : Type 0} → Dec X → (S → X) → ((S → ⊥) → X) → X
+pub settle : {S X : Type 0} → Dec X → (S → X) → ((S → ⊥) → X) → X
 settle d f g = elim d [
   | yes x ↦ x
   | no n ↦ g (λ s. n (f s))
 ]
 
-lists? : (xs ys : List ℕ) → Dec (xs ≡ ys)
+pub lists? : (xs ys : List ℕ) → Dec (xs ≡ ys)
 lists? [] [] = yes refl
 lists? [] (y ∷ ys) = no (λ e. let l : _≡_ {A = ℕ} 0 (length (y ∷ ys)) = ap length e in omega arith)
 lists? (x ∷ xs) [] = no (λ e. let l : length (x ∷ xs) ≡ 0 = ap length e in omega arith)
@@ -52,23 +47,10 @@ lists? (x ∷ xs) (y ∷ ys) = elim (Dec·and (ℕ-discrete x y) (lists? xs ys))
   | no n ↦ no (λ e. n (ap (λ (l : List ℕ). getD l 0 0) e, ap (λ (l : List ℕ). drop 1 l) e))
 ]
 
--- an answer is its fields
-answer-is : {a b : Answer} → fieldsOf a ≡ fieldsOf b → a ≡ b
-answer-is e = ap (λ (l : List ℕ). record { code = getD l 0 0; running = getD l 1 0; retry = getD l 2 0; mark = getD l 3 0; moved = getD l 4 0 }) e
-
-listed-is : {a b : Listed} → listFields a ≡ listFields b → a ≡ b
-listed-is e = ap (λ (l : List ℕ). record { code = getD l 0 0; count = getD l 1 0 }) e
-
 answers? : (a b : Answer) → Dec (a ≡ b)
 answers? a b = elim (lists? (fieldsOf a) (fieldsOf b)) [
-  | yes e ↦ yes (answer-is e)
+  | yes e ↦ yes (ap answerFrom e)
   | no n ↦ no (λ e. n (ap fieldsOf e))
-]
-
-listed? : (a b : Listed) → Dec (a ≡ b)
-listed? a b = elim (lists? (listFields a) (listFields b)) [
-  | yes e ↦ yes (listed-is e)
-  | no n ↦ no (λ e. n (ap listFields e))
 ]
 
 -- ---- a refusal spares the words
@@ -97,46 +79,6 @@ starts-spares {n} {bytes} {old} {new} {a} S h = go (eqb-case (startOn n bytes (l
     go (holds d e) = absurd (h (ap {A = Answer} (λ b. b .code) (S .accepted d .0)))
     go (fails d e) = let p = S .refused d in (p .0 ∙ ap {A = Answer} (λ b. refusal (b .code)) (sym (p .0)), p .1)
 
--- ---- List, by its cases
-
--- what List told of a sound area: no such queue, a buffer too short, or the whole queue
-pub data Outcome (n : Shape) (s : State model) (kind number : ℕ) (old new : List ℕ) (l : Listed) : Type 0 where
-  refused : (k : ℕ) → k < 8 → Unlisted old new l k → Outcome n s kind number old new l
-  whole : Written old new l (s .queues (queueBy kind number)) → Outcome n s kind number old new l
-
-unlisted-one : {old new other : List ℕ} {l m : Listed} {k : ℕ} → Unlisted old new l k → Unlisted old other m k → (l ≡ m) × (new ≡ other)
-unlisted-one u v = (λ i. record { code = (u .code ∙ sym (v .code)) i; count = (u .count ∙ sym (v .count)) i }, u .buffer ∙ sym (v .buffer))
-
-module _ {n : Shape} {s : State model} {kind number : ℕ} {old : List ℕ} where
-  pub lists-told : {new : List ℕ} {l : Listed} → Lists kind number n s old new l → Outcome n s kind number old new l
-  lists-told {new} {l} L = go (isQueue n kind number) refl (decLt (length old) (length (s .queues (queueBy kind number))))
-    where
-      go : (b : Bool) → isQueue n kind number ≡ b → Dec (length old < length (s .queues (queueBy kind number))) → Outcome n s kind number old new l
-      go false e d = refused 7 (omega arith) (L .missing e)
-      go true e (yes h) = refused 5 (omega arith) (L .short e h)
-      go true e (no h) = whole (L .whole e (omega arith))
-
-  -- it tells one thing
-  lists-one : {new other : List ℕ} {l m : Listed} → Lists kind number n s old new l → Lists kind number n s old other m → (l ≡ m) × (new ≡ other)
-  lists-one {new} {other} {l} {m} L M = go (isQueue n kind number) refl (decLt (length old) (length (s .queues (queueBy kind number))))
-    where
-      go : (b : Bool) → isQueue n kind number ≡ b → Dec (length old < length (s .queues (queueBy kind number))) → (l ≡ m) × (new ≡ other)
-      go false e d = unlisted-one (L .missing e) (M .missing e)
-      go true e (yes h) = unlisted-one (L .short e h) (M .short e h)
-      go true e (no h) =
-          let u = L .whole e (omega arith) in
-          let v = M .whole e (omega arith) in
-          (λ i. record { code = (u .code ∙ sym (v .code)) i; count = (u .count ∙ sym (v .count)) i }, u .buffer ∙ sym (v .buffer))
-
-pub lists-spares : {kind number : ℕ} {ws old new : List ℕ} {l : Listed} → ListsOn kind number ws old new l → l .code ≢ 0 → Unlisted old new l (l .code)
-lists-spares {kind} {number} {ws} {old} {new} {l} L h =
-    let r = settle (Dec·and (ℕ-discrete (l .count) 0) (lists? new old)) (λ S. go (lists-told (L .sound S))) (λ u. let p = L .unsound u in (p .count, p .buffer)) in
-    record { code = refl; count = r .0; buffer = r .1 }
-  where
-    go : Outcome (shapeOf ws) (stateOf ws) kind number old new l → (l .count ≡ 0) × (new ≡ old)
-    go (refused k b p) = (p .count, p .buffer)
-    go (whole p) = absurd (h (p .code))
-
 -- ---- the words beyond the size
 
 -- they stay
@@ -155,7 +97,7 @@ starts-keeps {n} {bytes} {old} {new} S = go (eqb-case (startOn n bytes (length o
 
 -- and are not read: areas that agree below their size are answered alike, and agree afterwards
 module _ {a b : List ℕ} (A : Agree a b) where
-  unsound-same : (Sound a → ⊥) → Sound b → ⊥
+  pub unsound-same : (Sound a → ⊥) → Sound b → ⊥
   unsound-same u S = u (sound-same (agree-back A) S)
 
   -- the words that a state of these counts has below the size
@@ -185,12 +127,6 @@ module _ {a b : List ℕ} (A : Agree a b) where
           let q = Q .unsound (unsound-same u) in
           (p .0 ∙ sym (q .0), ap (take k) (p .1) ∙ A .same ∙ sym (ap (take k) (q .1)))
 
-  pub lists-alike : {kind number : ℕ} {old new other : List ℕ} {x y : Listed} → ListsOn kind number a old new x → ListsOn kind number b old other y → (x ≡ y) × (new ≡ other)
-  lists-alike {kind} {number} {old} {new} {other} {x} {y} P Q =
-      settle (Dec·and (listed? x y) (lists? new other))
-      (λ S. lists-one (P .sound S) (subst (λ (n : Shape). Lists kind number n (stateOf a) old other y) (sym (shape-same A)) (subst (λ (s : State model). Lists kind number (shapeOf b) s old other y) (sym (state-same A)) (Q .sound (sound-same A S)))))
-      (λ u. unlisted-one (P .unsound u) (Q .unsound (unsound-same u)))
-
 -- on an area long enough Start's code is that of its numbers
 pub long-code : (n : Shape) (bytes : List ℕ) (words : ℕ) → size n ≤ words → startOn n bytes words ≡ startCode n bytes
 long-code n bytes words h = rw (le-ltb words (size n) h) (go (startCode n bytes))
@@ -219,7 +155,7 @@ module _ {n : Shape} {bytes a b a′ b′ : List ℕ} {x y : Answer} (la : size 
 
 -- ---- each field has ten bits
 
-fit? : (w : ℕ) (xs : List ℕ) → Dec (Fit w xs)
+pub fit? : (w : ℕ) (xs : List ℕ) → Dec (Fit w xs)
 fit? w [] = yes tt
 fit? w (x ∷ xs) = Dec·and (decLt x (2 ^ w)) (fit? w xs)
 
@@ -250,29 +186,3 @@ starts-fits {n} {bytes} {old} {a = a} S =
     settle (fit? 10 (fieldsOf a))
     (λ h. let k = start-accepted n bytes (length old) h .0 in rw (S .accepted h .0) (small-fits n _ (start-valid n bytes k .placed .counts) (start-small n bytes k)))
     (λ h. rw (S .refused h .0) (refusal-fits _ (start-below n bytes (length old))))
-
-pub lists-fits : {kind number : ℕ} {ws old new : List ℕ} {l : Listed} → ListsOn kind number ws old new l → Fit 10 (listFields l)
-lists-fits {kind} {number} {ws} {old} {new} {l} L = settle (fit? 10 (listFields l)) (λ S. go S (lists-told (L .sound S))) (λ h. let u = L .unsound h in (omega arith, (omega arith, tt)))
-  where
-    go : Sound ws → Outcome (shapeOf ws) (stateOf ws) kind number old new l → Fit 10 (listFields l)
-    go S (refused k b u) = (omega (arith, u .code), (omega (arith, u .count), tt))
-    go S (whole u) =
-        let c = counts-in (shapeOf ws) (S .valid .placed .counts) in
-        let m = queue-length (shapeOf ws .processes) (stateOf ws .queues) (S .valid .placed .place) (S .valid .placed .once) (queueBy kind number) in
-        (omega (arith, u .code), (omega (arith, u .count), tt))
-
--- ---- an answer comes back out of its number
-
-bits-of-five : (r : ℕ) → unpacked 10 5 r ≡ fieldsOf (answerOf r)
-unfolding unpacked
-bits-of-five r = simp div-div-eq-div-mul
-
-bits-of-two : (r : ℕ) → unpacked 10 2 r ≡ listFields (listedOf r)
-unfolding unpacked
-bits-of-two r = refl
-
-pub read-answer : {r : ℕ} {a : Answer} → Carries 10 r (fieldsOf a) → a ≡ answerOf r
-read-answer {r} C = answer-is (sym (C .back) ∙ bits-of-five r)
-
-pub read-listed : {r : ℕ} {l : Listed} → Carries 10 r (listFields l) → l ≡ listedOf r
-read-listed {r} C = listed-is (sym (C .back) ∙ bits-of-two r)

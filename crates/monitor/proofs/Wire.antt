@@ -1,17 +1,24 @@
--- The law of packing, over every width and every list of fields: fields of w bits come back. Assumes nothing.
+-- The law of packing, over every width and every list of fields: fields of w bits come back, and with them the answer whose fields they are.
+-- Assumes nothing.
 use Prim.Native.Nat.{ℕ, _+_, _*_, _/_, _%_, _^_, _<_}
-use native.Mathlib.Nat.{zero-add, mod-eq-of-lt, div-eq-of-lt, add-mul-mod-self-left, add-mul-div-left}
-use mathlib.Core.Path.{_≡_, refl, ap, _∙_}
+use native.Mathlib.Nat.{zero-add, mod-eq-of-lt, div-eq-of-lt, div-div-eq-div-mul, add-mul-mod-self-left, add-mul-div-left}
+use mathlib.Core.Path.{_≡_, refl, sym, ap, _∙_}
 use mathlib.Core.List.{List, [], _∷_}
-use lib.ListN.{length}
+use lib.ListN.{length, getD}
 use lib.Pow.{pow-pos}
+use Rattle.model.specs.declared.Answer.{Answer}
 use Rattle.model.specs.Queue.{All}
-use Rattle.monitor.specs.Wire.{packed, unpacked, Carries}
+use Rattle.model.specs.Machine.{fieldsOf}
+use Rattle.queues.specs.declared.listing.Listed.{Listed}
+use Rattle.timers.specs.declared.Told.{Told}
+use Rattle.timers.specs.declared.Earliest.{Earliest}
+use Rattle.monitor.specs.Wire.{packed, unpacked, Carries, listFields, dueFields, nearestFields, answerOf, listedOf, dueOf, nearestOf}
 
 -- each field has w bits
 abbrev pub Fit : ℕ → List ℕ → Type 0
 Fit w = All (λ x. x < 2 ^ w)
 
+-- fields of w bits come back out of their number
 comes-back : (w : ℕ) (xs : List ℕ) → Fit w xs → unpacked w (length xs) (packed w xs) ≡ xs
 unfolding unpacked
 comes-back w [] h = refl
@@ -26,5 +33,37 @@ comes-back w (x ∷ xs) (h, hs) = λ i. low i ∷ (ap (unpacked w (length xs)) r
     rest : (x % 2 ^ w + 2 ^ w * packed w xs) / 2 ^ w ≡ packed w xs
     rest = rw whole (add-mul-div-left x (packed w xs) (pow-pos w) ∙ rw (div-eq-of-lt h) (zero-add (packed w xs)))
 
+-- the number carries them
 pub carries : (w : ℕ) {r : ℕ} (xs : List ℕ) → r ≡ packed w xs → Fit w xs → Carries w r xs
 carries w xs e h = record { number = e; back = ap (unpacked w (length xs)) e ∙ comes-back w xs h }
+
+-- ---- an answer is made of its fields again, the first of a list
+
+abbrev pub answerFrom : List ℕ → Answer
+answerFrom l = record { code = getD l 0 0; running = getD l 1 0; retry = getD l 2 0; mark = getD l 3 0; moved = getD l 4 0 }
+
+abbrev pub listedFrom : List ℕ → Listed
+listedFrom l = record { code = getD l 0 0; count = getD l 1 0 }
+
+abbrev pub toldFrom : List ℕ → Told
+toldFrom l = record { code = getD l 0 0; count = getD l 1 0 }
+
+abbrev pub earliestFrom : List ℕ → Earliest
+earliestFrom l = record { code = getD l 0 0; process = getD l 1 0; left = getD l 2 0 }
+
+-- and so comes back out of its number
+pub read-answer : {r : ℕ} {a : Answer} → Carries 10 r (fieldsOf a) → a ≡ answerOf r
+unfolding unpacked
+read-answer {r} C = ap answerFrom (sym (C .back)) ∙ simp div-div-eq-div-mul
+
+pub read-listed : {r : ℕ} {l : Listed} → Carries 10 r (listFields l) → l ≡ listedOf r
+unfolding unpacked
+read-listed C = ap listedFrom (sym (C .back))
+
+pub read-due : {r : ℕ} {a : Told} → Carries 20 r (dueFields a) → a ≡ dueOf r
+unfolding unpacked
+read-due C = ap toldFrom (sym (C .back))
+
+pub read-nearest : {r : ℕ} {a : Earliest} → Carries 20 r (nearestFields a) → a ≡ nearestOf r
+unfolding unpacked
+read-nearest {r} C = ap earliestFrom (sym (C .back)) ∙ simp div-div-eq-div-mul

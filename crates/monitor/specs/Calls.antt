@@ -1,4 +1,4 @@
--- What each of the nine calls, and List, promises of the words: 01's rules, on areas. Assumes nothing.
+-- What each of the nine calls and each read promises of the words: the papers' rules, on areas. Assumes nothing.
 use Prim.Native.Nat.{ℕ}
 use mathlib.Core.Path.{_≡_}
 use mathlib.Core.Logic.{_≢_}
@@ -11,6 +11,9 @@ use Rattle.area.specs.Reading.{shapeOf, stateOf}
 use Rattle.area.specs.Sound.{Sound}
 use Rattle.queues.specs.declared.listing.Listed.{Listed}
 use Rattle.queues.specs.Listing.{Unlisted, Lists}
+use Rattle.timers.specs.declared.Told.{Told}
+use Rattle.timers.specs.declared.Earliest.{Earliest}
+use Rattle.timers.specs.Telling.{Untold, Tells, nearestIn}
 
 -- an unsound area is refused by 1 and left as it is; a sound one gives the rule's answer and the words of the rule's state, with the words
 -- beyond as they were
@@ -22,6 +25,16 @@ pub record Performs (c : Call) (old new : List ℕ) (a : Answer) : Type 0 where
 pub record ListsOn (kind number : ℕ) (ws old new : List ℕ) (r : Listed) : Type 0 where
   pub unsound : (Sound ws → ⊥) → Unlisted old new r 1
   pub sound : Sound ws → Lists kind number (shapeOf ws) (stateOf ws) old new r
+
+-- who is due within k ticks: an unsound area is refused by 1; of a sound one its state is told; a refusal changes no word of the buffer
+pub record TellsOn (k : ℕ) (ws old new : List ℕ) (r : Told) : Type 0 where
+  pub unsound : (Sound ws → ⊥) → Untold old new r 1
+  pub sound : Sound ws → Tells k (shapeOf ws) (stateOf ws) old new r
+
+-- who is the nearest, likewise
+pub record NearestOn (ws : List ℕ) (r : Earliest) : Type 0 where
+  pub unsound : (Sound ws → ⊥) → r ≡ record { code = 1; process = 0; left = 0 }
+  pub sound : Sound ws → r ≡ nearestIn (shapeOf ws) (stateOf ws)
 
 -- a refusal spares the words: a code other than 0 comes with zeros beside it, and every word is as it was
 abbrev pub Spares : Answer → List ℕ → List ℕ → Type 0

@@ -6,6 +6,8 @@ use lib.ListN.{length}
 use Rattle.model.specs.declared.Answer.{Answer}
 use Rattle.model.specs.Machine.{fieldsOf}
 use Rattle.queues.specs.declared.listing.Listed.{Listed}
+use Rattle.timers.specs.declared.Told.{Told}
+use Rattle.timers.specs.declared.Earliest.{Earliest}
 
 -- the number that has w bits of each field, the first lowest
 abbrev pub packed : ℕ → List ℕ → ℕ
@@ -32,6 +34,13 @@ numberOf a = packed 10 (fieldsOf a)
 abbrev pub listFields : Listed → List ℕ
 listFields l = l .code ∷ l .count ∷ []
 
+-- those of who is due, and of who is the nearest
+abbrev pub dueFields : Told → List ℕ
+dueFields a = a .code ∷ a .count ∷ []
+
+abbrev pub nearestFields : Earliest → List ℕ
+nearestFields a = a .code ∷ a .process ∷ a .left ∷ []
+
 -- ---- what is read back
 
 -- an answer: code in bits 0 to 9, running in 10 to 19, retry in 20 to 29, mark in 30 to 39, moved in 40 to 49
@@ -41,3 +50,11 @@ answerOf r = record { code = r % 2 ^ 10; running = r / 2 ^ 10 % 2 ^ 10; retry = 
 -- List's: code in bits 0 to 9, count in 10 to 19
 abbrev pub listedOf : ℕ → Listed
 listedOf r = record { code = r % 2 ^ 10; count = r / 2 ^ 10 % 2 ^ 10 }
+
+-- who is due, twenty bits a field: code in bits 0 to 19, count in 20 to 39
+abbrev pub dueOf : ℕ → Told
+dueOf r = record { code = r % 2 ^ 20; count = r / 2 ^ 20 % 2 ^ 20 }
+
+-- who is the nearest: code in bits 0 to 19, process in 20 to 39, ticks left in 40 to 59
+abbrev pub nearestOf : ℕ → Earliest
+nearestOf r = record { code = r % 2 ^ 20; process = r / 2 ^ 20 % 2 ^ 20; left = r / 2 ^ 40 % 2 ^ 20 }

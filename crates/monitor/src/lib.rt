@@ -5,12 +5,14 @@ use model::Priority;
 use model::Process;
 use model::Ticks;
 use queues::listing::Listed;
+use timers::Earliest;
+use timers::Told;
 ghost use mathlib.Core.Path.{_≡_};
-ghost use Prim.Native.Nat.{_+_, _*_, _%_, _^_, _<_};
+ghost use Prim.Native.Nat.{_+_, _*_, _%_, _^_, _≤_, _<_};
 ghost use Rattle.model.specs.declared.Call.the-variants.{Enter, Exit, Wait, Notify, Broadcast, Naked, Requeue, SetPriority, Tick};
 ghost use Rattle.model.specs.Machine.{refusal};
-ghost use Rattle.monitor.specs.Calls.{Performs, ListsOn};
-ghost use Rattle.monitor.specs.Wire.{packed, listFields, numberOf};
+ghost use Rattle.monitor.specs.Calls.{Performs, ListsOn, TellsOn, NearestOn};
+ghost use Rattle.monitor.specs.Wire.{packed, listFields, dueFields, nearestFields, numberOf};
 
 // ---- the calls, each on any words: it is asked whether the area is sound, and the crate that has the call makes it
 
@@ -149,17 +151,45 @@ pub fn list(area: &[u16], kind: u16, number: u16, buffer: &mut [u16]) -> Listed
     queues::listing::list(area, shape, kind, number, buffer)
 }
 
+// Who is due within so many ticks, by ticks left and then by number, two words each into the buffer.
+pub fn due(area: &[u16], ticks: Ticks, buffer: &mut [u16]) -> Told
+    ensures { λ r. ⌜ TellsOn (ticks .0) (now (area .entry)) (now (buffer .entry)) (now (buffer .exit)) r ⌝ }
+{
+    if !sound::sound(area) {
+        return Told { code: 1, count: 0 };
+    }
+    let shape = area::shape_of(area);
+    timers::due(area, shape, ticks, buffer)
+}
+
+// Who is the nearest, and its ticks left.
+pub fn nearest(area: &[u16]) -> Earliest
+    ensures { λ r. ⌜ NearestOn (now (area .entry)) r ⌝ }
+{
+    if !sound::sound(area) {
+        return Earliest {
+            code: 1,
+            process: 0,
+            left: 0,
+        };
+    }
+    let shape = area::shape_of(area);
+    timers::nearest(area, shape)
+}
+
 // ---- answers as numbers
 
-// As many numbers as ten bits hold.
+// As many numbers as ten bits hold, and as twenty.
 const TEN: u64 = 1024;
 
-// Ten bits of a field, and the others above them.
-fn above(low: u16, high: u64) -> u64
-    requires { ⌜ high < 2 ^ 54 ⌝ }
-    ensures { λ r. ⌜ r ≡ low % 2 ^ 10 + 2 ^ 10 * high ⌝ }
+const TWENTY: u64 = 1048576;
+
+// A field, in bits that hold so many numbers, and the others above them.
+fn above(room: u64, low: u32, high: u64) -> u64
+    requires { ⌜ (0 < room) × (room ≤ 2 ^ 20) × (high < 2 ^ 43) ⌝ }
+    ensures { λ r. ⌜ r ≡ low % room + room * high ⌝ }
 {
-    low as u64 % TEN + TEN * high
+    low as u64 % room + room * high
 }
 
 // Ten bits a field, code lowest.
@@ -167,8 +197,17 @@ pub fn pack(a: Answer) -> u64
     ensures { λ r. ⌜ r ≡ numberOf a ⌝ }
 {
     above(
-        a.code,
-        above(a.running, above(a.retry, above(a.mark, above(a.moved, 0)))),
+        TEN,
+        a.code as u32,
+        above(
+            TEN,
+            a.running as u32,
+            above(
+                TEN,
+                a.retry as u32,
+                above(TEN, a.mark as u32, above(TEN, a.moved as u32, 0)),
+            ),
+        ),
     )
 }
 
@@ -176,5 +215,22 @@ pub fn pack(a: Answer) -> u64
 pub fn pack_list(l: Listed) -> u64
     ensures { λ r. ⌜ r ≡ packed 10 (listFields l) ⌝ }
 {
-    above(l.code, above(l.count, 0))
+    above(TEN, l.code as u32, above(TEN, l.count as u32, 0))
+}
+
+// The answers of the timers' reads, twenty bits a field, code lowest.
+pub fn pack_due(a: Told) -> u64
+    ensures { λ r. ⌜ r ≡ packed 20 (dueFields a) ⌝ }
+{
+    above(TWENTY, a.code as u32, above(TWENTY, a.count as u32, 0))
+}
+
+pub fn pack_nearest(a: Earliest) -> u64
+    ensures { λ r. ⌜ r ≡ packed 20 (nearestFields a) ⌝ }
+{
+    above(
+        TWENTY,
+        a.code as u32,
+        above(TWENTY, a.process as u32, above(TWENTY, a.left, 0)),
+    )
 }

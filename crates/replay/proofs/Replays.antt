@@ -17,9 +17,9 @@ use Rattle.monitor.specs.Calls.{Performs}
 use Rattle.monitor.specs.History.{Run, Ends}
 use Rattle.monitor.specs.History.Run.{none, then}
 use Rattle.monitor.specs.Wire.{numberOf, answerOf}
-use Rattle.monitor.proofs.Wire.{carries}
+use Rattle.monitor.proofs.Wire.{carries, read-answer}
 use Rattle.monitor.proofs.History.{run-ends}
-use Rattle.monitor.proofs.Promises.{performs-fits, read-answer}
+use Rattle.monitor.proofs.Promises.{performs-fits}
 use Rattle.replay.specs.declared.Record.{Record}
 use Rattle.replay.specs.declared.Record.the-variants.{Made, Malformed}
 use Rattle.replay.specs.Replay.{none2, none3, pick, made, operation, recorded, firstOf, follow, logged, Served, Replayed, LogDemand3}

@@ -1,7 +1,7 @@
 //! The nine calls on the library against the reference, the whole area and the whole answer
-//! after each call; histories against the ledger too.
+//! after each call; histories against the ledger too, with due and nearest after each call.
 
-use super::{ledger, Outcome, Tally};
+use super::{ledger, timers, Outcome, Tally};
 use crate::call::{Answer, Call};
 use crate::damage::{self, BREAKS};
 use crate::guarded::Guarded;
@@ -12,7 +12,11 @@ use crate::reference::{self, State};
 use crate::sample;
 
 pub fn run(tally: &mut Tally, random: &mut Random) -> Outcome {
-    ledger::histories(tally, random, compare)?;
+    ledger::histories(tally, random, |tally, lent, call| {
+        let answer = compare(tally, lent, call)?;
+        timers::reads(tally, lent)?;
+        Ok(answer)
+    })?;
     scattered_states(tally, random)?;
     crowds(tally, random)?;
     boundaries(tally, random)?;

@@ -165,7 +165,7 @@ impl Run {
     }
 }
 
-/// All queues, running, every field that the ledger keeps, locked and waiting.
+/// All queues, running, every field that the ledger keeps, locked and waiting, the ticks left.
 fn agree(
     tally: &mut Tally,
     ledger: &Ledger,
@@ -186,6 +186,14 @@ fn agree(
     })?;
     tally.same(&state.clock, &ledger.clock, || {
         format!("clock, {}", place())
+    })?;
+    let timed: Vec<(u16, u32)> = state
+        .timed()
+        .iter()
+        .map(|timed| (timed.process, timed.left))
+        .collect();
+    tally.same(&timed, &ledger.timed(), || {
+        format!("ticks left, {}", place())
     })?;
     for process in 1..=state.shape.processes {
         let (record, at) = (state.record(process), usize::from(process));

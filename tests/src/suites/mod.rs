@@ -8,6 +8,7 @@ pub mod rehearse;
 pub mod sound;
 pub mod start;
 pub mod table;
+pub mod timers;
 
 use std::fmt::Debug;
 

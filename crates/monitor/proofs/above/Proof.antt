@@ -1,17 +1,21 @@
--- `monitor::above` meets its contract: ten bits below, the others above, and the number fits. Assumes nothing.
+-- `monitor::above` meets its contract: the field below, the others above, and the number fits. Assumes nothing.
+use native.Mathlib.Nat.{mod-lt, mul-le-mul-right}
 use native.Mathlib.Omega.{arith}
 use borrow.Author.Needs.{needs}
 use Rattle.monitor.proofs.above.Statement.{statement}
 use Rattle.monitor.proofs.above.Tie as tie
 
+rem-result : tie.Need-rem-result
+rem-result c = search needs
+
 mul-result : tie.Need-mul-result
-mul-result c = search needs
+mul-result c = record { fits = omega (arith, mul-le-mul-right (c .args .high) (c .pre .1)) }
 
 add-result : tie.Need-add-result
-add-result c = search needs
+add-result c = record { fits = omega (arith, mod-lt (c .args .low) (c .pre .0), mul-le-mul-right (c .args .high) (c .pre .1)) }
 
 returns : tie.Need-returns
 returns c = omega arith
 
 pub above-spec : {M : Type 1} → statement M
-above-spec = tie.close (tie.spec mul-result add-result returns)
+above-spec = tie.close (tie.spec rem-result mul-result add-result returns)

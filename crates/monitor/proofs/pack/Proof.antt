@@ -4,6 +4,21 @@ use borrow.Author.Needs.{needs}
 use Rattle.monitor.proofs.pack.Statement.{statement}
 use Rattle.monitor.proofs.pack.Tie as tie
 
+cast-above : tie.Need-cast-above
+cast-above c = search needs
+
+cast-above-2 : tie.Need-cast-above-2
+cast-above-2 c = search needs
+
+cast-above-3 : tie.Need-cast-above-3
+cast-above-3 c = search needs
+
+cast-above-4 : tie.Need-cast-above-4
+cast-above-4 c = search needs
+
+cast-above-5 : tie.Need-cast-above-5
+cast-above-5 c = search needs
+
 above-requires : tie.Need-above-requires
 above-requires c κs = search needs
 
@@ -23,4 +38,4 @@ returns : tie.Need-returns
 returns c = rw (c .above5 .ensures, c .before .above4 .ensures, c .before .before .above3 .ensures, c .before .before .before .above2 .ensures, c .before .before .before .before .above .ensures) refl
 
 pub pack-spec : {M : Type 1} → statement M
-pack-spec = tie.close (tie.spec above-requires above-requires-2 above-requires-3 above-requires-4 above-requires-5 returns)
+pack-spec = tie.close (tie.spec cast-above cast-above-2 cast-above-3 cast-above-4 cast-above-5 above-requires above-requires-2 above-requires-3 above-requires-4 above-requires-5 returns)

@@ -1,0 +1,123 @@
+-- What Ticks bring about, on areas: a sound area is the words of its state, and each Tick leaves the words of the state one Tick on, so what
+-- Ticks do to states they do to areas. What is shown can be decided, so an area that cannot be unsound will do for a sound one. Assumes nothing.
+use Prim.Native.Nat.{ℕ, zero, suc, _+_, _*_, _≤_, _<_}
+use native.Mathlib.Decide.{decLt}
+use native.Mathlib.Omega.{arith}
+use mathlib.Core.Path.{_≡_, refl, sym, ap, _∙_, subst}
+use mathlib.Core.Logic.{_≢_}
+use mathlib.Core.Bool.{Bool, true, false, false≢true}
+use mathlib.Core.List.{List, [], _∷_, _++_}
+use lib.ListN.{length, getD, drop}
+use Rattle.model.specs.declared.Answer.{Answer}
+use Rattle.model.specs.Queue.{member, All}
+use Rattle.model.specs.Queue.Queue.{ready, condition}
+use Rattle.model.specs.Machine.{State, model, after}
+use Rattle.model.specs.Timers.{ticks, left, Entry, dueWithin}
+use Rattle.model.proofs.Ticking.{seat, left-waits, ticks-stay, ticks-wake, ticks-still, Exact, due-exact, nearest-is}
+use Rattle.area.specs.Reading.{shapeOf, stateOf}
+use Rattle.area.specs.Sound.{Sound}
+use Rattle.area.proofs.States.{sound-image}
+use Rattle.timers.specs.declared.Told.{Told}
+use Rattle.timers.specs.declared.Earliest.{Earliest}
+use Rattle.timers.specs.Telling.{inWords, Untold, ToldAll}
+use Rattle.monitor.specs.Calls.{Performs, TellsOn, NearestOn}
+use Rattle.monitor.specs.History.{Run}
+use Rattle.monitor.specs.Ticks.{WakesIn, Still}
+use Rattle.monitor.proofs.History.{Keeps, keeps-state, run-keeps}
+use Rattle.monitor.proofs.Promises.{settle, lists?}
+
+-- ---- from a sound area
+
+module _ {ws : List ℕ} (S : Sound ws) where
+  -- it is the words of its own state
+  own : Keeps (shapeOf ws) ws (stateOf ws)
+  own = record { valid = S .valid; image = sound-image ws S }
+
+  -- Ticks leave the words of the state that they come to
+  ticks-state : (k : ℕ) {new : List ℕ} {rs : List Answer} → Run Performs (ticks k) ws new rs → stateOf new ≡ after model (shapeOf ws) (stateOf ws) (ticks k)
+  ticks-state k R = keeps-state (run-keeps (stateOf ws) own R)
+
+-- ---- from an area that cannot be unsound
+
+-- whether a test passed
+passed? : (b : Bool) → Dec (b ≡ true)
+passed? true = yes refl
+passed? false = no false≢true
+
+module _ {ws : List ℕ} (N : (Sound ws → ⊥) → ⊥) where
+  -- what can be decided holds if it holds of a sound area
+  sure : {X : Type 0} → Dec X → (Sound ws → X) → X
+  sure d f = settle d f (λ u. absurd (N u))
+
+  -- who has d ticks left wakes in the d-th Tick
+  left-wakes : {p d : ℕ} → (Sound ws → Exact (shapeOf ws) (stateOf ws) (p, d)) → WakesIn Performs ws p d
+  left-wakes {p} {d} E = record {
+    condition = seat (shapeOf ws) (stateOf ws) p;
+    waits = λ {k} {new} h R. sure (passed? (member p (stateOf new .queues (condition (seat (shapeOf ws) (stateOf ws) p))))) (λ S. waits-yet S (E S) h R);
+    wakes = λ {new} R. sure (passed? (member p (stateOf new .queues ready))) (λ S. comes S (E S) R);
+  }
+    where
+      waits-yet : (S : Sound ws) {k : ℕ} {new : List ℕ} {rs : List Answer} → Exact (shapeOf ws) (stateOf ws) (p, d) → k < d → Run Performs (ticks k) ws new rs
+          → member p (stateOf new .queues (condition (seat (shapeOf ws) (stateOf ws) p))) ≡ true
+      waits-yet S {k} e h R =
+          ap {A = State model} (λ t. member p (t .queues (condition (seat (shapeOf ws) (stateOf ws) p)))) (ticks-state S k R)
+          ∙ ticks-stay (shapeOf ws) p (condition (seat (shapeOf ws) (stateOf ws) p)) k (stateOf ws) (S .valid) (subst (λ (x : ℕ). k < x) (sym (e .1)) h)
+          ∙ left-waits (shapeOf ws) (stateOf ws) p (λ z. e .2 (sym (e .1) ∙ z))
+
+      comes : (S : Sound ws) {new : List ℕ} {rs : List Answer} → Exact (shapeOf ws) (stateOf ws) (p, d) → Run Performs (ticks d) ws new rs → member p (stateOf new .queues ready) ≡ true
+      comes S e R = ap {A = State model} (λ t. member p (t .queues ready)) (ticks-state S d R) ∙ ticks-wake (shapeOf ws) p d (stateOf ws) (S .valid) (e .1) (e .2)
+
+  -- where everyone who has ticks left has more than k, k Ticks move nobody
+  none-moves : (k : ℕ) → (Sound ws → (p : ℕ) → left (shapeOf ws) (stateOf ws) p ≢ 0 → k < left (shapeOf ws) (stateOf ws) p) → Still Performs ws k
+  none-moves k H new rs R q = sure (lists? (stateOf new .queues q) (stateOf ws .queues q))
+      (λ S. ap {A = State model} (λ t. t .queues q) (ticks-state S k R) ∙ ticks-still (shapeOf ws) k (stateOf ws) (S .valid) (H S) q)
+
+-- ---- who is due
+
+-- what holds of all entries holds of the i-th two words
+pair-of : (T : Entry → Type 0) (es : List Entry) (rest : List ℕ) (i : ℕ) → All T es → i < length es → T (getD (inWords es ++ rest) (2 * i) 0, getD (inWords es ++ rest) (2 * i + 1) 0)
+pair-of T [] rest i a h = let w : ⊥ = omega arith in absurd w
+pair-of T (e ∷ es) rest zero a h = a .0
+pair-of T (e ∷ es) rest (suc i) a h =
+    let x : 2 * suc i ≡ suc (suc (2 * i)) = omega arith in
+    let y : 2 * suc i + 1 ≡ suc (suc (2 * i + 1)) = omega arith in
+    rw (y, x) (pair-of T es rest i (a .1) (omega arith))
+
+-- whoever is told with d ticks left wakes in the d-th Tick
+pub told-wakes : {k : ℕ} {ws old new : List ℕ} {r : Told} {i : ℕ} → TellsOn k ws old new r → i < r .count → WakesIn Performs ws (getD new (2 * i) 0) (getD new (2 * i + 1) 0)
+told-wakes {k} {ws} {old} {new} {r} {i} T h = left-wakes (λ u. let c = T .unsound u .count in omega arith) exact
+  where
+    exact : Sound ws → Exact (shapeOf ws) (stateOf ws) (getD new (2 * i) 0, getD new (2 * i + 1) 0)
+    exact S = go (dueWithin (shapeOf ws) (stateOf ws) k) (due-exact (shapeOf ws) (stateOf ws) k) (T .sound S .short) (T .sound S .whole)
+      where
+        go : (es : List Entry) → All (Exact (shapeOf ws) (stateOf ws)) es → (length old < 2 * length es → Untold old new r 5) → (2 * length es ≤ length old → ToldAll old new r es)
+            → Exact (shapeOf ws) (stateOf ws) (getD new (2 * i) 0, getD new (2 * i + 1) 0)
+        go es a short whole = elim (decLt (length old) (2 * length es)) [
+          | yes l ↦ let c = short l .count in let w : ⊥ = omega arith in absurd w
+          | no l ↦ let t = whole (omega arith) in
+              subst (λ (b : List ℕ). Exact (shapeOf ws) (stateOf ws) (getD b (2 * i) 0, getD b (2 * i + 1) 0)) (sym (t .buffer))
+              (pair-of (Exact (shapeOf ws) (stateOf ws)) es (drop (2 * length es) old) i a (subst (λ (m : ℕ). i < m) (t .count) h))
+        ]
+
+-- ---- who is the nearest
+
+module _ {ws : List ℕ} {r : Earliest} (W : NearestOn ws r) where
+  -- the nearest wakes when it is told to
+  pub nearest-wakes : r .process ≢ 0 → WakesIn Performs ws (r .process) (r .left)
+  nearest-wakes o = left-wakes (λ u. o (ap {A = Earliest} (λ a. a .process) (W .unsound u)))
+      (λ S. subst (λ (a : Earliest). a .process ≢ 0 → Exact (shapeOf ws) (stateOf ws) (a .process, a .left)) (sym (W .sound S)) (nearest-is (shapeOf ws) (stateOf ws) (S .valid) .own) o)
+
+  -- before the nearest's tick nobody moves
+  pub still-before : {k : ℕ} → k < r .left → Still Performs ws k
+  still-before {k} h = none-moves (λ u. let c = ap {A = Earliest} (λ a. a .left) (W .unsound u) in omega arith) k within
+    where
+      within : Sound ws → (p : ℕ) → left (shapeOf ws) (stateOf ws) p ≢ 0 → k < left (shapeOf ws) (stateOf ws) p
+      within S p o =
+          let e = ap {A = Earliest} (λ a. a .left) (W .sound S) in
+          let b = nearest-is (shapeOf ws) (stateOf ws) (S .valid) .first p o in
+          omega arith
+
+  -- nor ever where there is none
+  pub still-ever : (k : ℕ) → r .code ≡ 0 → r .process ≡ 0 → Still Performs ws k
+  still-ever k z y = none-moves (λ u. let c = ap {A = Earliest} (λ a. a .code) (W .unsound u) in omega arith) k
+      (λ S p o. absurd (o (nearest-is (shapeOf ws) (stateOf ws) (S .valid) .none (sym (ap {A = Earliest} (λ a. a .process) (W .sound S)) ∙ y) p)))
