@@ -230,7 +230,7 @@ pub fn pack_nearest(a: Earliest) -> u64
 {
     above(
         TWENTY,
-        a.code as u32,
-        above(TWENTY, a.process as u32, above(TWENTY, a.left, 0)),
+        a.code,
+        above(TWENTY, a.process, above(TWENTY, a.left, 0)),
     )
 }

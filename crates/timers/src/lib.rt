@@ -24,8 +24,8 @@ pub struct Told {
 
 // What is answered to who is the nearest: the code, the process, its ticks left. No process where no timer is set.
 pub struct Earliest {
-    pub code: u16,
-    pub process: u16,
+    pub code: u32,
+    pub process: u32,
     pub left: u32,
 }
 
@@ -141,14 +141,14 @@ pub fn nearest(area: &[u16], shape: Shape) -> Earliest
 {
     let clock = area::get(area, places::clock());
     let processes = shape.processes;
-    let mut process: u16 = 0;
+    let mut process: u32 = 0;
     let mut least: u32 = 0;
     let mut p: u16 = 0;
     while p < processes {
         p += 1;
         let left = left_of(area, shape, clock, p);
         if nearer(left, least) {
-            process = p;
+            process = p as u32;
             least = left;
         }
     }

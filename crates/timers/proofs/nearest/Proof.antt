@@ -47,6 +47,9 @@ next c s H v =
 nearer-requires : tie.Need-nearer-requires Inv-loop μ-loop
 nearer-requires c κs = search needs
 
+cast-process : tie.Need-cast-process Inv-loop μ-loop
+cast-process c = omega (arith, c .before .before .before .loop-test .taken)
+
 loop-less : tie.Need-loop-less Inv-loop μ-loop
 loop-less c = omega (arith, c .before .before .before .loop-test .taken)
 
@@ -83,6 +86,7 @@ nearest-spec =
     add-p
     left-of-requires
     nearer-requires
+    cast-process
     loop-less
     loop-again
     loop-less-2
