@@ -17,10 +17,12 @@ ROWS = [
     ("tick, all due", "random"),
     ("broadcast to all", "random"),
     ("start", "ready, random"),
+    ("nearest", "timers random"),
+    ("due, all told", "timers random"),
 ]
 LIBRARY, PLAIN = "#0072b2", "#d55e00"
 
-COLUMNS = 4
+COLUMNS = 5
 POWER = 62  # the length of a power of ten
 MARGIN = 0.25  # between the lines and a panel's edge, in powers of ten
 GAP_X, GAP_Y = 62, 66

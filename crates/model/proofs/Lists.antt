@@ -231,6 +231,15 @@ pub all-append : {A : Type 0} (P : A → Type 0) (xs ys : List A) → All P xs �
 all-append P [] ys h k = k
 all-append P (x ∷ xs) ys h k = (h .0, all-append P xs ys (h .1) k)
 
+-- of the first list of two, and of the second
+pub all-left : {A : Type 0} (P : A → Type 0) (xs ys : List A) → All P (xs ++ ys) → All P xs
+all-left P [] ys h = tt
+all-left P (x ∷ xs) ys h = (h .0, all-left P xs ys (h .1))
+
+pub all-right : {A : Type 0} (P : A → Type 0) (xs ys : List A) → All P (xs ++ ys) → All P ys
+all-right P [] ys h = h
+all-right P (x ∷ xs) ys h = all-right P xs ys (h .1)
+
 all-remove : (P Q : ℕ → Type 0) (p : ℕ) → ((y : ℕ) → y ≢ p → P y → Q y) → (xs : List ℕ) → All P xs → All Q (remove p xs)
 all-remove P Q p f [] h = tt
 all-remove P Q p f (x ∷ xs) h = go (eqb-case x p) (all-remove P Q p f xs (h .1))

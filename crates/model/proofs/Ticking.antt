@@ -42,14 +42,10 @@ ticks-lead now time a b o = go (eqb-case (distance now time) 0)
     go (fails d z) = rw z (on o (omega arith) (omega arith) (omega arith))
 
 module _ {now time d : ℕ} where
-  -- without a time there are none, and never more than a full round
+  -- without a time there are none
   lead-off : Lead now time d → time ≡ 0 → d ≡ 0
   lead-off (off a b) z = b
   lead-off (on o a b e) z = absurd (o z)
-
-  lead-most : Lead now time d → d ≤ 65536
-  lead-most (off a b) = omega arith
-  lead-most (on o a b e) = b
 
   -- the time is the next one exactly where one tick leads to it
   lead-one : Lead now time d → time ≢ 0 → time ≡ (now + 1) % 65536 → d ≡ 1
@@ -143,6 +139,18 @@ left-waits n s p = go (waiting n (s .queues) p) refl
     go true e o = seek-found (n .conditions) (λ c. member p (s .queues (condition c))) e
     go false e o = absurd (o refl)
 
+-- nobody has more than a full round left
+pub left-most : (n : Shape) (s : State model) (p : ℕ) → left n s p ≤ 65536
+left-most n s p = go (waiting n (s .queues) p && some (s .fields (timer p))) (distance (s .fields clock) (s .fields (timer p))) (omega arith)
+  where
+    go : (w : Bool) (d : ℕ) → d < 65536 → cond w (cond (eqb d 0) 65536 d) 0 ≤ 65536
+    go true d h = round (eqb d 0)
+      where
+        round : (b : Bool) → cond b 65536 d ≤ 65536
+        round true = omega arith
+        round false = omega arith
+    go false d h = omega arith
+
 module _ (n : Shape) (s : State model) (v : Valid n s) where
   -- who has ticks left is a process
   left-inside : (p : ℕ) → left n s p ≢ 0 → inside (n .processes) p ≡ true
@@ -166,10 +174,6 @@ module _ (n : Shape) (s : State model) (v : Valid n s) where
       go (fails d z) =
           subst (λ (x : ℕ). Lead (s .fields clock) (s .fields (timer p)) x) (sym (left-timer p ∙ rw z))
           (ticks-lead (s .fields clock) (s .fields (timer p)) (v .placed .range clock) (each-most (n .processes) p 65536 (s .fields (timer p)) (v .placed .range (timer p)) (omega arith)) d)
-
-  -- nobody has more than a full round left
-  left-most : (p : ℕ) → left n s p ≤ 65536
-  left-most p = lead-most (lead p)
 
   -- due are exactly those who have one tick left
   due-left : (p : ℕ) → member p (woken n s) ≡ true → left n s p ≡ 1
@@ -311,7 +315,7 @@ nearest-is n s v = go (dueWithin n s 65536) (due-ahead n s v 65536) (due-exact n
     -- nobody has more than a full round left, so nobody has any
     all-none : (p : ℕ) → (left n s p ≢ 0 → 65536 < left n s p) → EqCase (left n s p) 0 → left n s p ≡ 0
     all-none p h (holds d z) = d
-    all-none p h (fails d z) = let a = left-most n s v p in let b = h d in let w : ⊥ = omega arith in absurd w
+    all-none p h (fails d z) = let a = left-most n s p in let b = h d in let w : ⊥ = omega arith in absurd w
 
     go : (es : List Entry) → Ahead n s 65536 es → All (Exact n s) es → IsNearest n s (firstEntry es)
     go l (none h) a = record { own = λ o. absurd (o refl); first = λ p o. omega arith; none = λ z p. all-none p (h p) (eqb-case (left n s p) 0) }

@@ -16,7 +16,7 @@ use Rattle.model.specs.Machine.{State, model}
 use Rattle.model.specs.Timers.{Entry, dueWithin, firstEntry, nearest}
 use Rattle.model.proofs.Tests.{inside-bounds}
 use Rattle.model.proofs.Places.{queue-length}
-use Rattle.model.proofs.Ticking.{Exact, due-exact}
+use Rattle.model.proofs.Ticking.{left-most, Exact, due-exact}
 use Rattle.area.specs.Reading.{shapeOf, stateOf, Agree}
 use Rattle.area.specs.Sound.{Sound}
 use Rattle.area.proofs.Whole.{counts-in}
@@ -26,7 +26,6 @@ use Rattle.queues.specs.Listing.{queueBy, isQueue, Unlisted, Lists}
 use Rattle.timers.specs.declared.Told.{Told}
 use Rattle.timers.specs.declared.Earliest.{Earliest}
 use Rattle.timers.specs.Telling.{inWords, Untold, Tells, nearestIn}
-use Rattle.timers.proofs.Left.{left-most}
 use Rattle.timers.proofs.Dues.{count-all, due-few}
 use Rattle.monitor.specs.Calls.{ListsOn, TellsOn, NearestOn}
 use Rattle.monitor.specs.Wire.{listFields, dueFields, nearestFields}

@@ -7,7 +7,7 @@ use Prim.Native.Nat.{ℕ, _≤_}
 use native.Mathlib.Omega.{arith}
 use Rattle.model.specs.Queue.{bit, member, count, All}
 use Rattle.model.proofs.Tests.{holds, fails, EqCase, eqb-case, eqb-yes, eqb-no}
-use Rattle.model.proofs.Lists.{all-append, absent-count, member-bit, member-here, member-there}
+use Rattle.model.proofs.Lists.{all-append, all-left, all-right, absent-count, member-bit, member-here, member-there}
 use Rattle.ring.specs.Ring.{lastOf}
 
 -- ---- every process of a list
@@ -34,19 +34,11 @@ pub differ : (t : ℕ → Bool) (x y : ℕ) → t x ≡ true → t y ≡ false �
 differ t x y e f d = true≢false (sym e ∙ ap t d ∙ f)
 
 module _ (P : ℕ → Type 0) where
-  pub all-left : (xs ys : List ℕ) → All P (xs ++ ys) → All P xs
-  all-left [] ys h = tt
-  all-left (x ∷ xs) ys h = (h .0, all-left xs ys (h .1))
-
-  pub all-right : (xs ys : List ℕ) → All P (xs ++ ys) → All P ys
-  all-right [] ys h = h
-  all-right (x ∷ xs) ys h = all-right xs ys (h .1)
-
   pub all-drop : (xs : List ℕ) (y : ℕ) (ys : List ℕ) → All P (xs ++ y ∷ ys) → All P (xs ++ ys)
-  all-drop xs y ys h = all-append P xs ys (all-left xs (y ∷ ys) h) (all-right xs (y ∷ ys) h .1)
+  all-drop xs y ys h = all-append P xs ys (all-left P xs (y ∷ ys) h) (all-right P xs (y ∷ ys) h .1)
 
   pub all-insert : (xs : List ℕ) (y : ℕ) (ys : List ℕ) → P y → All P (xs ++ ys) → All P (xs ++ y ∷ ys)
-  all-insert xs y ys p h = all-append P xs (y ∷ ys) (all-left xs ys h) (p, all-right xs ys h)
+  all-insert xs y ys p h = all-append P xs (y ∷ ys) (all-left P xs ys h) (p, all-right P xs ys h)
 
   pub all-last : (x : ℕ) (xs : List ℕ) → P x → All P xs → P (lastOf x xs)
   all-last x [] p h = p

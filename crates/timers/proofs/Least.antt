@@ -16,8 +16,8 @@ use Rattle.model.specs.Timers.{Entry, left, withLeft, dueWithin}
 use Rattle.model.proofs.Tests.{so, not-so, eqb-case, eqb-yes, eqb-no, leb-case, and-split, or-split, not-true, not-below, inside-bounds}
 use Rattle.model.proofs.Lists.{filter-append, upTo-member}
 use Rattle.model.proofs.Many.{filter-none}
+use Rattle.model.proofs.Ticking.{left-most}
 use Rattle.timers.specs.Telling.{fewer, nearestIn}
-use Rattle.timers.proofs.Left.{left-most}
 
 -- ---- the walk
 

@@ -40,18 +40,6 @@ module _ (n : Shape) (s : State model) (p : ℕ) {t : ℕ} (reads : t ≡ s .fie
 
 -- ---- how many they can be
 
--- a full round at most
-pub left-most : (n : Shape) (s : State model) (p : ℕ) → left n s p ≤ 65536
-left-most n s p = go (waiting n (s .queues) p && some (s .fields (timer p))) (distance (s .fields clock) (s .fields (timer p))) (omega arith)
-  where
-    go : (w : Bool) (d : ℕ) → d < 65536 → cond w (cond (eqb d 0) 65536 d) 0 ≤ 65536
-    go true d h = round (eqb d 0)
-      where
-        round : (b : Bool) → cond b 65536 d ≤ 65536
-        round true = omega arith
-        round false = omega arith
-    go false d h = omega arith
-
 -- those due within less than a round have the ticks to their timers left
 pub key-left : (n : Shape) (s : State model) {now k : ℕ} → now ≡ s .fields clock → k < 65536 → (p : ℕ) → inside k (left n s p) ≡ true → ahead now s p ≡ left n s p
 key-left n s {now} {k} c h p i = rw c (go (waiting n (s .queues) p && some (s .fields (timer p))) (distance (s .fields clock) (s .fields (timer p))) (inside-bounds k (left n s p) i))
