@@ -157,7 +157,7 @@ module _ (n : Shape) (s : State model) (v : Valid n s) where
   left-inside p o = (stands-at (n .processes) (s .queues) (v .placed .place) (v .placed .once) p (condition (seat n s p)) (left-waits n s p o)) .0
 
   -- whoever has a timer waits, so the timer alone says the ticks left
-  left-timer : (p : ℕ) → left n s p ≡ cond (some (s .fields (timer p))) (ticksTo (s .fields clock) (s .fields (timer p))) 0
+  pub left-timer : (p : ℕ) → left n s p ≡ cond (some (s .fields (timer p))) (ticksTo (s .fields clock) (s .fields (timer p))) 0
   left-timer p = go (waiting n (s .queues) p) refl
     where
       go : (b : Bool) → waiting n (s .queues) p ≡ b

@@ -14,6 +14,7 @@ use Rattle.model.specs.Machine.{State, model, waiting}
 use Rattle.model.specs.Valid.{Valid}
 use Rattle.model.specs.Timers.{distance, ticksTo, left}
 use Rattle.model.proofs.Tests.{holds, fails, eqb-yes, eqb-no, LeCase, leb-case, leb-yes, leb-no, inside-bounds}
+use Rattle.model.proofs.Ticking.{left-timer}
 use Rattle.order.specs.Order.{ahead}
 use Rattle.timers.specs.Telling.{fewer}
 
@@ -24,11 +25,7 @@ module _ (n : Shape) (s : State model) (p : ℕ) {t : ℕ} (reads : t ≡ s .fie
 
   -- the timer is set
   left-set : Valid n s → t ≢ 0 → left n s p ≡ ticksTo (s .fields clock) (s .fields (timer p))
-  left-set v h = rw (waits (waiting n (s .queues) p) refl, eqb-no (s .fields (timer p)) 0 (λ e. h (reads ∙ e)))
-    where
-      waits : (w : Bool) → waiting n (s .queues) p ≡ w → waiting n (s .queues) p ≡ true
-      waits true e = e
-      waits false e = absurd (h (reads ∙ v .timers p e))
+  left-set v h = left-timer n s v p ∙ rw (eqb-no (s .fields (timer p)) 0 (λ e. h (reads ∙ e)))
 
   -- at the clock
   pub left-round : Valid n s → {now : ℕ} → now ≡ s .fields clock → t ≢ 0 → {d : ℕ} → d ≡ ahead now s p → d ≡ 0 → 65536 ≡ left n s p

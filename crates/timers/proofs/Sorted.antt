@@ -13,6 +13,7 @@ use Rattle.model.specs.Timers.{Entry, left, dueWithin}
 use Rattle.model.proofs.Tests.{holds, fails, EqCase, eqb-case, eqb-yes, eqb-no, inside-bounds, bounds-inside}
 use Rattle.model.proofs.Lists.{member-here, member-there, all-map, filter-member, member-filter}
 use Rattle.order.specs.Order.{Rising, having, Ordered, paired}
+use Rattle.order.proofs.Merging.{none-having}
 use Rattle.timers.specs.Telling.{inWords, dueOnes}
 use Rattle.timers.proofs.Dues.{isDue}
 
@@ -24,15 +25,10 @@ byKey key (suc k) xs = byKey key k xs ++ having key (suc k) xs
 module _ (key : ℕ → ℕ) where
   -- ---- a list that rises
 
-  -- nobody has a key below all keys
-  having-none : (d : ℕ) (xs : List ℕ) → All (λ x. d < key x) xs → having key d xs ≡ []
-  having-none d [] h = refl
-  having-none d (x ∷ xs) h = rw (eqb-no (key x) d (let a = h .0 in omega arith)) (having-none d xs (h .1))
-
-  -- so nobody is there below all keys
+  -- nobody is there below all keys
   by-none : (k : ℕ) (xs : List ℕ) → All (λ x. k < key x) xs → byKey key k xs ≡ []
   by-none zero xs h = refl
-  by-none (suc k) xs h = rw (by-none k xs (all-map (λ x. suc k < key x) (λ x. k < key x) xs (λ x a. omega arith) h), having-none (suc k) xs h)
+  by-none (suc k) xs h = rw (by-none k xs (all-map (λ x. suc k < key x) (λ x. k < key x) xs (λ x a. omega arith) h), none-having key (suc k) xs h)
 
   -- the least goes first
   by-first : (k x : ℕ) (xs : List ℕ) → 1 ≤ key x → key x ≤ k → All (λ y. key x ≤ key y) xs → byKey key k (x ∷ xs) ≡ x ∷ byKey key k xs
