@@ -8,7 +8,7 @@
 
 #include "../include/kernel.h"
 
-enum { WORDS = 8192, MAX_LINE = 8192, MAX_ANSWER = 30 };
+enum { WORDS = 8192, MAX_LINE = 8192, MAX_ANSWER = 36 };
 
 static uint16_t area[WORDS];
 
@@ -47,7 +47,8 @@ static void put_answer(uint64_t answer)
     put_number(KERNEL_RUNNING(answer), ' ');
     put_number(KERNEL_RETRY(answer), ' ');
     put_number(KERNEL_MARK(answer), ' ');
-    put_number(KERNEL_MOVED(answer), '\n');
+    put_number(KERNEL_MOVED(answer), ' ');
+    put_number(KERNEL_AHEAD(answer), '\n');
 }
 
 /* ---- lines */

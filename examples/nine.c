@@ -1,4 +1,4 @@
-/* The example of document 01: Start and eight calls on three processes with a lock and a condition, each with its answer's five fields. */
+/* The example of document 01: Start and eight calls on three processes with a lock and a condition, each with its answer's six fields. */
 #include <inttypes.h>
 #include <stdio.h>
 
@@ -8,7 +8,8 @@ static uint16_t area[KERNEL_AREA_WORDS(3, 1, 1, 0)];
 
 static void show(const char *call, uint64_t a)
 {
-    printf("%-20s = %u %u %u %u %u\n", call, KERNEL_CODE(a), KERNEL_RUNNING(a), KERNEL_RETRY(a), KERNEL_MARK(a), KERNEL_MOVED(a));
+    printf("%-20s = %u %u %u %u %u %u\n", call, KERNEL_CODE(a), KERNEL_RUNNING(a), KERNEL_RETRY(a), KERNEL_MARK(a), KERNEL_MOVED(a),
+           KERNEL_AHEAD(a));
 }
 
 int main(void)

@@ -1,9 +1,10 @@
-/* A compost probe, simulated: four tasks share one processor through the kernel. Each event prints a line: when, who, the call, what comes
+/* A compost probe, simulated: five tasks share one processor through the kernel. Each event prints a line: when, who, the call, what comes
  * of it.
  *
  * The sampler asks the converter for a temperature, waits for its interrupt, two ticks at most, and puts the reading into the store. The
- * writer copies it to flash. The radio reports how many were written. Housekeeping feeds the watchdog while the area is sound. They share
- * the store, so a monitor lock guards it.
+ * writer copies it to flash, which takes more than two ticks. Moisture puts the moisture of its tick into the store, and skips a reading
+ * where the queue for the store is long, since it would come too late. The radio reports how many temperatures were written, how many lost,
+ * and the moisture. Housekeeping feeds the watchdog while the area is sound. They share the store, so a monitor lock guards it.
  *
  * How it is built: a task is a small state machine, and a step of it makes at most one call. Every answer says who runs now, and the main
  * loop steps that task next. A task that waits or queues keeps its state, and is not stepped until an answer names it again. Where nobody
@@ -16,14 +17,15 @@
 
 /* ---- processes, locks and conditions, numbered from 1 */
 
-enum { NOBODY, SAMPLER, WRITER, RADIO, HOUSEKEEPING, PROCESSES = HOUSEKEEPING };
+enum { NOBODY, SAMPLER, MOISTURE, WRITER, RADIO, HOUSEKEEPING, PROCESSES = HOUSEKEEPING };
 enum { STORE = 1, LOCKS = STORE };
 enum { CONVERTED = 1, READING, PAUSE, CONDITIONS = PAUSE }; /* nobody notifies PAUSE: a task waits there for its ticks alone */
 enum { PARKS = 0 };
 
-static const char *const NAMES[] = {
-    [NOBODY] = "nobody", [SAMPLER] = "sampler", [WRITER] = "writer", [RADIO] = "radio", [HOUSEKEEPING] = "housekeeping"};
-static const uint8_t PRIORITIES[PROCESSES] = {[SAMPLER - 1] = 5, [WRITER - 1] = 3, [RADIO - 1] = 6, [HOUSEKEEPING - 1] = 1};
+static const char *const NAMES[] = {[NOBODY] = "nobody", [SAMPLER] = "sampler", [MOISTURE] = "moisture",
+                                    [WRITER] = "writer", [RADIO] = "radio",     [HOUSEKEEPING] = "housekeeping"};
+static const uint8_t PRIORITIES[PROCESSES] = {
+    [SAMPLER - 1] = 5, [MOISTURE - 1] = 4, [WRITER - 1] = 3, [RADIO - 1] = 6, [HOUSEKEEPING - 1] = 1};
 
 enum { WORDS = KERNEL_AREA_WORDS(PROCESSES, LOCKS, CONDITIONS, PARKS) };
 static uint16_t area[WORDS];
@@ -31,7 +33,7 @@ static unsigned running; /* as the last answer says */
 
 /* ---- time and printing */
 
-enum { STEPS_PER_TICK = 10, END = 11 * STEPS_PER_TICK };
+enum { STEPS_PER_TICK = 10, END = 14 * STEPS_PER_TICK };
 static unsigned now;    /* in steps; printed in ticks */
 static unsigned ticked; /* how many ticks the kernel knows of */
 
@@ -68,10 +70,16 @@ static bool called(const char *who, const char *call, uint64_t answer, const cha
 
 /* ---- calls of the running task */
 
+static unsigned ahead; /* how many stand before the task that entered last, if it queues */
+
 /* Whether it has the store now. If not, it queues, and enters again when it runs again. */
 static bool enter(void)
 {
-    return called(NAMES[running], "enter store", kernel_enter(area, WORDS, STORE), "has the lock", "queues for the lock");
+    char queues[40];
+    uint64_t answer = kernel_enter(area, WORDS, STORE);
+    ahead = KERNEL_AHEAD(answer);
+    snprintf(queues, sizeof queues, "queues for the lock, %u ahead", ahead);
+    return called(NAMES[running], "enter store", answer, "has the lock", queues);
 }
 
 static void leave(void)
@@ -113,7 +121,7 @@ static void ask_converter(void)
 
 static struct {
     bool full;
-    unsigned celsius, written, lost;
+    unsigned celsius, moisture, written, lost;
 } store;
 
 /* ---- the tasks */
@@ -160,8 +168,37 @@ static void sampler(void)
     }
 }
 
+static void moisture(void)
+{
+    enum { LONG = 2 }; /* with so many ahead a queue is long */
+    static enum { BEGIN, SKIP, REST } state;
+    switch (state) {
+    case BEGIN:
+        if (enter()) {
+            store.moisture = 60 - now / STEPS_PER_TICK;
+            tell("moisture", "", "");
+            printf("reads %u percent\n", store.moisture);
+            state = REST;
+        } else if (ahead >= LONG) {
+            state = SKIP;
+        }
+        break;
+    case SKIP: /* nobody leaves a queue before its turn, and to rest takes the lock */
+        if (enter()) {
+            tell("moisture", "", "skips its reading, the queue was long\n");
+            state = REST;
+        }
+        break;
+    case REST:
+        wait_for("wait pause 6", PAUSE, 6);
+        state = BEGIN;
+        break;
+    }
+}
+
 static void writer(void)
 {
+    enum { PAGE = 22 }; /* bytes, one a step */
     static enum { BEGIN, LOOK, COPY, LEAVE } state;
     static unsigned bytes;
     switch (state) {
@@ -179,7 +216,7 @@ static void writer(void)
         }
         break;
     case COPY: /* slow, and under the lock */
-        if (++bytes == 4) {
+        if (++bytes == PAGE) {
             tell("writer", "", "");
             printf("wrote %u degrees\n", store.celsius);
             store.full = false;
@@ -204,7 +241,7 @@ static void radio(void)
         break;
     case SEND:
         tell("radio", "", "");
-        printf("sends: %u written, %u lost\n", store.written, store.lost);
+        printf("sends: %u written, %u lost, moisture %u\n", store.written, store.lost, store.moisture);
         wait_for("wait pause 5", PAUSE, 5);
         state = BEGIN;
         break;
@@ -264,8 +301,8 @@ static void interrupts(void)
 
 int main(void)
 {
-    static void (*const STEPS[])(void) = {
-        [NOBODY] = nobody, [SAMPLER] = sampler, [WRITER] = writer, [RADIO] = radio, [HOUSEKEEPING] = housekeeping};
+    static void (*const STEPS[])(void) = {[NOBODY] = nobody, [SAMPLER] = sampler, [MOISTURE] = moisture,
+                                          [WRITER] = writer, [RADIO] = radio,     [HOUSEKEEPING] = housekeeping};
 
     printf("tick  who           call              what comes of it\n");
     called("probe", "start", kernel_start(area, WORDS, PROCESSES, LOCKS, CONDITIONS, PARKS, PRIORITIES, sizeof PRIORITIES), "",

@@ -17,10 +17,11 @@
  *
  * Time: a call first checks the area, every process and every queue once. What it does beyond that is at worst linear, but for due, which
  * sorts, whatever the priorities, the order and the number of those who wake. In steps from a process to the next of its queue, with P
- * processes and C conditions: P for enter, exit, wait, notify, naked, set_priority and broadcast; 2 P for requeue, which looks for the
- * process first; P + C for a tick at which somebody is due, with two passes over the P timers, and one pass over these where nobody is;
- * P for list, 2 P into a buffer of fewer than P words. nearest takes one pass over the timers; due takes one where nobody is due, else
- * two, and about n log n steps to sort the n that it tells. README.md has measured times.
+ * processes and C conditions: P for enter, exit, wait, notify, naked, set_priority and broadcast, of which enter and wait walk the queue
+ * that their process joins once, to count who is ahead; 2 P for requeue, which looks for the process first; P + C for a tick at which
+ * somebody is due, with two passes over the P timers, and one pass over these where nobody is; P for list, 2 P into a buffer of fewer than
+ * P words. nearest takes one pass over the timers; due takes one where nobody is due, else two, and about n log n steps to sort the n that
+ * it tells. README.md has measured times.
  *
  * A call takes less than 416 bytes of stack (320 measured at most, on x86-64). */
 #ifndef KERNEL_H
@@ -35,13 +36,18 @@ extern "C" {
 
 /* ---- answers
  *
- * An answer is one number, ten bits a field. kernel_start and the nine changing calls answer five fields: */
+ * An answer is one number, ten bits a field. kernel_start and the nine changing calls answer six fields: */
 
 #define KERNEL_CODE(a) ((unsigned)((a) & 1023u))            /* 0: accepted, else one of the codes below */
 #define KERNEL_RUNNING(a) ((unsigned)((a) >> 10 & 1023u))   /* the process that runs now, 0 if none is ready */
 #define KERNEL_RETRY(a) ((unsigned)((a) >> 20 & 1023u))     /* 1: this process failed to enter a lock and must enter again */
 #define KERNEL_MARK(a) ((unsigned)((a) >> 30 & 1023u))      /* told at each call; else 0 */
 #define KERNEL_MOVED(a) ((unsigned)((a) >> 40 & 1023u))     /* how many processes came into ready from another queue */
+#define KERNEL_AHEAD(a) ((unsigned)((a) >> 50 & 1023u))     /* how many stand before the caller in the queue that it joined; else 0 */
+
+/* The last is told by kernel_enter when it queues and by kernel_wait when it waits, and by nothing else. So a task learns in the same call
+ * how long the queue is. It cannot leave the queue, but it can decide to skip a reading that would come too late: it keeps this in its
+ * state, and when it has the lock at last it gives it up again at once. examples/probe.c has such a task. */
 
 /* kernel_list answers two: the code, and */
 #define KERNEL_COUNT(a) ((unsigned)((a) >> 10 & 1023u))     /* how many processes were written */
@@ -88,7 +94,8 @@ uint64_t kernel_sound(const uint16_t *area, size_t len);
 /* ---- monitor locks */
 
 /* The running process takes the lock (mark 1), or, where it is held, becomes failed and queues for it (mark 0): when it runs again the
- * answer has retry 1, and it must enter again. Codes: 1, 6, 7, 8. */
+ * answer has retry 1, and it must enter again. If it queues, KERNEL_AHEAD says how many stand before it: those of its priority or a
+ * higher one. Codes: 1, 6, 7, 8. */
 uint64_t kernel_enter(uint16_t *area, size_t len, uint16_t lock);
 
 /* The running process leaves the lock; the first that queues for it, if any, comes into ready. Codes: 1, 6, 7, 9. */
@@ -97,8 +104,9 @@ uint64_t kernel_exit(uint16_t *area, size_t len, uint16_t lock);
 /* ---- conditions */
 
 /* The running process leaves the lock and waits on the condition (mark 1) until it is notified or, if ticks is not 0, that many ticks
- * have gone by; it must enter the lock again then. If a wakeup was stored by kernel_naked, it takes that and goes on (mark 0).
- * A wait that would fall due at clock 0 falls due one tick later. Codes: 1, 6, 7, 9. */
+ * have gone by; it must enter the lock again then. If it waits, KERNEL_AHEAD says how many wait there before it: kernel_notify wakes these
+ * first. If a wakeup was stored by kernel_naked, it takes that and goes on (mark 0). A wait that would fall due at clock 0 falls due one
+ * tick later. Codes: 1, 6, 7, 9. */
 uint64_t kernel_wait(uint16_t *area, size_t len, uint16_t lock, uint16_t condition, uint16_t ticks);
 
 /* The first process that waits on the condition wakes, if there is one. Codes: 1, 6, 7. */

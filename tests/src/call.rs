@@ -52,9 +52,23 @@ pub struct Answer {
     pub retry: u16,
     pub mark: u16,
     pub moved: u16,
+    pub ahead: u16,
 }
 
 impl Answer {
+    /// The answer of these fields, in their order.
+    pub fn of(fields: [u16; 6]) -> Self {
+        let [code, running, retry, mark, moved, ahead] = fields;
+        Answer {
+            code,
+            running,
+            retry,
+            mark,
+            moved,
+            ahead,
+        }
+    }
+
     pub fn refusal(code: u16) -> Self {
         Answer {
             code,
@@ -62,9 +76,21 @@ impl Answer {
         }
     }
 
+    /// Its fields, in their order.
+    pub fn fields(&self) -> [u16; 6] {
+        [
+            self.code,
+            self.running,
+            self.retry,
+            self.mark,
+            self.moved,
+            self.ahead,
+        ]
+    }
+
     /// The answer as one number, ten bits a field, code lowest.
     pub fn pack(&self) -> u64 {
-        pack(&[self.code, self.running, self.retry, self.mark, self.moved])
+        pack(&self.fields())
     }
 }
 

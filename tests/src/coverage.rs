@@ -35,6 +35,18 @@ const EVENTS: [&str; 9] = [
     "wait whose lock lets one go before the caller",
 ];
 
+/// How a process joins a lock or a condition.
+const JOINS: [&str; 5] = [
+    "behind three or more",
+    "behind three or more and before others",
+    "behind some and before others",
+    "behind equals",
+    "before all who queue",
+];
+
+/// How often each way to join is demanded.
+const OFTEN: u64 = 100;
+
 /// The events of histories whose clock goes round.
 const ROUND: [&str; 3] = [
     "clock goes round",
@@ -66,10 +78,11 @@ impl Coverage {
         match *call {
             Call::Broadcast(_) => self.meet_if(answer.moved > 1, "broadcast moves several"),
             Call::Tick => self.note_tick(before, answer, after),
-            Call::Enter(lock) => self.meet_if(
-                answer.mark == 1 && !before.lock(lock).queue.is_empty(),
+            Call::Enter(lock) if answer.mark == 1 => self.meet_if(
+                !before.lock(lock).queue.is_empty(),
                 "enter of an unlocked lock with a queue",
             ),
+            Call::Enter(lock) => self.note_join(before, "enter", Queue::Lock(lock), answer),
             Call::Naked(condition) => self.meet_if(
                 before.condition(condition).wakeup,
                 "naked where wakeup is set already",
@@ -80,8 +93,32 @@ impl Coverage {
                 destination,
                 ..
             } => self.meet_if(source == destination, "requeue within one queue"),
-            Call::Wait { .. } => self.note_wait(before, answer, after),
+            Call::Wait { condition, .. } => {
+                self.note_wait(before, answer, after);
+                if answer.mark == 1 {
+                    self.note_join(before, "wait", Queue::Condition(condition), answer);
+                }
+            }
             _ => {}
+        }
+    }
+
+    fn note_join(&mut self, before: &State, name: &str, queue: Queue, answer: &Answer) {
+        let ahead = usize::from(answer.ahead);
+        let others = before.queue(queue);
+        let priority = |process| before.record(process).priority;
+        let equals = others
+            .iter()
+            .any(|&other| priority(other) == priority(before.running));
+        let happened = [
+            ahead >= 3,
+            (3..others.len()).contains(&ahead),
+            (1..others.len()).contains(&ahead),
+            equals,
+            ahead == 0 && !others.is_empty(),
+        ];
+        for (happened, how) in happened.into_iter().zip(JOINS) {
+            self.meet_if(happened, &format!("{name} {how}"));
         }
     }
 
@@ -112,11 +149,16 @@ impl Coverage {
         }
     }
 
-    /// Each call with each of its codes, and each event, at least once.
+    /// Each call with each of its codes and each event at least once, each way to join often.
     pub fn demand_all(&self) -> Result<(), String> {
         for (name, codes) in CODES {
             for code in codes {
                 self.demand(&format!("{name} {code}"))?;
+            }
+        }
+        for name in ["enter", "wait"] {
+            for how in JOINS {
+                self.demand_often(&format!("{name} {how}"))?;
             }
         }
         EVENTS.iter().try_for_each(|event| self.demand(event))
@@ -126,11 +168,21 @@ impl Coverage {
         ROUND.iter().try_for_each(|event| self.demand(event))
     }
 
+    fn count(&self, what: &str) -> u64 {
+        self.met.get(what).copied().unwrap_or(0)
+    }
+
     fn demand(&self, what: &str) -> Result<(), String> {
-        if self.met.contains_key(what) {
-            Ok(())
-        } else {
-            Err(format!("no history met: {what}"))
+        match self.count(what) {
+            0 => Err(format!("no history met: {what}")),
+            _ => Ok(()),
+        }
+    }
+
+    fn demand_often(&self, what: &str) -> Result<(), String> {
+        match self.count(what) {
+            OFTEN.. => Ok(()),
+            count => Err(format!("histories met only {count} times: {what}")),
         }
     }
 }

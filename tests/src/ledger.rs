@@ -29,13 +29,17 @@ pub struct Ledger {
 
 impl Ledger {
     /// Start: the ledger and the answer, or the refusal's code.
-    pub fn start(
-        processes: u16,
-        locks: u16,
-        conditions: u16,
-        parks: u16,
-        priorities: &[u8],
-    ) -> Result<(Ledger, Answer), u16> {
+    pub fn start(start: &Call) -> Result<(Ledger, Answer), u16> {
+        let &Call::Start {
+            processes,
+            locks,
+            conditions,
+            parks,
+            ref priorities,
+        } = start
+        else {
+            panic!("a history begins with Start");
+        };
         if processes == 0 || processes > 1023 || locks > 255 || conditions > 255 || parks > 8 {
             return Err(2);
         }
@@ -63,7 +67,7 @@ impl Ledger {
             holder: vec![0; locks as usize + 1],
             wakeup: vec![false; conditions as usize + 1],
         };
-        let answer = ledger.dispatch(0, 0);
+        let answer = ledger.dispatch(0, 0, 0);
         Ok((ledger, answer))
     }
 
@@ -94,6 +98,12 @@ impl Ledger {
                 .then(newest[a].cmp(&newest[b]))
         });
         members
+    }
+
+    /// How many are read before a process in the queue in which it lies.
+    fn ahead(&self, process: u16) -> u16 {
+        let queue = self.queue(self.lies(process));
+        queue.iter().take_while(|&&other| other != process).count() as u16
     }
 
     pub fn locked(&self, lock: u16) -> bool {
@@ -129,7 +139,7 @@ impl Ledger {
         self.note(process, Place::Ready)
     }
 
-    fn dispatch(&mut self, mark: u16, moved: u16) -> Answer {
+    fn dispatch(&mut self, mark: u16, moved: u16, ahead: u16) -> Answer {
         self.running = *self.queue(Place::Ready).first().unwrap_or(&0);
         let retry = std::mem::take(&mut self.failed[self.running as usize]);
         Answer {
@@ -138,6 +148,7 @@ impl Ledger {
             retry: retry as u16,
             mark,
             moved,
+            ahead,
         }
     }
 
@@ -147,8 +158,13 @@ impl Ledger {
         if refusal != 0 {
             return Answer::refusal(refusal);
         }
+        let caller = self.running;
         let (mark, moved) = self.effect(call);
-        self.dispatch(mark, moved)
+        let ahead = match (call, mark) {
+            (Call::Enter(_), 0) | (Call::Wait { .. }, 1) => self.ahead(caller),
+            _ => 0,
+        };
+        self.dispatch(mark, moved, ahead)
     }
 
     /// The first code that applies, 0 if none does.

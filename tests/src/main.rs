@@ -35,6 +35,7 @@ fn suites() -> Vec<Suite> {
         ("table on library", |tally, _| {
             suites::table::on_library(tally)
         }),
+        ("ahead", |tally, _| suites::ahead::run(tally)),
         ("start", suites::start::run),
         ("sound", suites::sound::run),
         ("calls", suites::calls::run),

@@ -334,7 +334,8 @@ impl State {
             .expect("each process stands in a queue")
     }
 
-    fn join(&mut self, process: u16, queue: Queue) {
+    /// Answers how many stand before the newcomer.
+    fn join(&mut self, process: u16, queue: Queue) -> u16 {
         let priority = self.record(process).priority;
         let members = self.queue(queue);
         let place = members
@@ -342,6 +343,7 @@ impl State {
             .position(|&other| self.record(other).priority < priority)
             .unwrap_or(members.len());
         self.queue_mut(queue).insert(place, process);
+        place as u16
     }
 
     // Soundness, clause by clause, over fields that are in range.
@@ -479,6 +481,7 @@ struct Step {
     state: State,
     mark: u16,
     moved: u16,
+    ahead: u16,
 }
 
 type Done = Result<(), u16>;
@@ -504,11 +507,7 @@ pub fn perform(area: &mut [u16], call: &Call) -> Answer {
     let Some(state) = read(area) else {
         return Answer::refusal(1);
     };
-    let mut step = Step {
-        state,
-        mark: 0,
-        moved: 0,
-    };
+    let mut step = Step::new(state);
     match step.rule(call) {
         Err(code) => Answer::refusal(code),
         Ok(()) => step.finish(area),
@@ -528,12 +527,7 @@ fn start(area: &mut [u16], shape: Shape, priorities: &[u8]) -> Answer {
     if area.len() < shape.size() {
         return Answer::refusal(5);
     }
-    let step = Step {
-        state: State::fresh(shape, priorities),
-        mark: 0,
-        moved: 0,
-    };
-    step.finish(area)
+    Step::new(State::fresh(shape, priorities)).finish(area)
 }
 
 fn known(number: u16, count: u16) -> Done {
@@ -544,6 +538,15 @@ fn known(number: u16, count: u16) -> Done {
 }
 
 impl Step {
+    fn new(state: State) -> Self {
+        Step {
+            state,
+            mark: 0,
+            moved: 0,
+            ahead: 0,
+        }
+    }
+
     fn rule(&mut self, call: &Call) -> Done {
         match *call {
             Call::Start { .. } => unreachable!("Start reads no old content"),
@@ -583,18 +586,20 @@ impl Step {
             retry,
             mark: self.mark,
             moved: self.moved,
+            ahead: self.ahead,
         }
     }
 
-    fn move_to(&mut self, process: u16, queue: Queue) {
+    /// Answers how many stand before the process where it now is.
+    fn move_to(&mut self, process: u16, queue: Queue) -> u16 {
         let from = self.state.lies(process);
         self.state
             .queue_mut(from)
             .retain(|&member| member != process);
-        self.state.join(process, queue);
         if queue == Queue::Ready && from != Queue::Ready {
             self.moved += 1;
         }
+        self.state.join(process, queue)
     }
 
     fn wake(&mut self, process: u16) {
@@ -624,7 +629,7 @@ impl Step {
         let running = self.state.running;
         if self.state.lock(lock).locked {
             self.state.record_mut(running).failed = true;
-            self.move_to(running, Queue::Lock(lock));
+            self.ahead = self.move_to(running, Queue::Lock(lock));
         } else {
             self.state.lock_mut(lock).locked = true;
             self.state.lock_mut(lock).holder = running;
@@ -668,7 +673,7 @@ impl Step {
         let record = self.state.record_mut(caller);
         record.timer = timer;
         record.waiting = true;
-        self.move_to(caller, Queue::Condition(condition));
+        self.ahead = self.move_to(caller, Queue::Condition(condition));
         self.mark = 1;
         Ok(())
     }

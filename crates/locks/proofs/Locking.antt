@@ -9,7 +9,7 @@ use lib.ListN.{length}
 use Rattle.model.specs.declared.Shape.{Shape}
 use Rattle.model.specs.declared.Answer.{Answer}
 use Rattle.model.specs.declared.Call.the-variants.{Enter, Exit}
-use Rattle.model.specs.Queue.{outside, first, firstOnly}
+use Rattle.model.specs.Queue.{outside, first, firstOnly, aheadOf}
 use Rattle.model.specs.Queue.Queue.{ready, lock}
 use Rattle.model.specs.Field.{put}
 use Rattle.model.specs.Field.Field.{running, failed, holder}
@@ -20,7 +20,7 @@ use Rattle.model.proofs.Tests.{eqb-yes, eqb-no}
 use Rattle.model.proofs.Loops.{released-moved}
 use Rattle.area.specs.Holds.{Holds, Becomes, with, sent, Gives}
 use Rattle.area.specs.Calls.{Does, Calling, changed}
-use Rattle.moves.proofs.Outcomes.{when-yes, when-no, choose-yes, choose-no, Tested, calling-tested, refuses, refuses-by, accepts}
+use Rattle.moves.proofs.Outcomes.{when-yes, when-no, choose-yes, choose-no, Tested, calling-tested, refuses, refuses-by, accepts, accepts-ready}
 use Rattle.moves.proofs.Numbers.{first-only, nobody-first}
 
 -- ---- the rules, with r the running process, k the code of the tests that every call of a lock shares, and h the lock's holder
@@ -49,22 +49,23 @@ module _ {n : Shape} {old : List ℕ} {s : State model} (H : Holds n old s) (l :
     enter-own e = refuses H (Enter l) 8 (tested .passed z _ ∙ when-yes 8 _ (own e))
 
     pub enter-free : {mid new : List ℕ} {a : Answer} → h ≢ r → h ≡ 0 → Becomes n old mid (with (holder l) r s)
-        → Gives n mid new a (finish model (put (holder l) r (s .fields)) (s .queues) 1 0) → Does (Enter l) n old new s a
+        → Gives n mid new a (finish model (put (holder l) r (s .fields)) (s .queues) 1 0 0) → Does (Enter l) n old new s a
     unfolding decide
     enter-free d e =
-        accepts H (Enter l) (put (holder l) r (s .fields)) [] 1 0
+        accepts H (Enter l) (put (holder l) r (s .fields)) [] 1 0 0
         (tested .passed z _ ∙ when-no 8 _ (foreign d) ∙ choose-yes _ _ (eqb-yes (s .fields (holder l)) 0 (sym eh ∙ e))
         ∙ ap {A = ℕ} (λ x. accept (put (holder l) x (s .fields)) [] 1) (sym er))
-        refl
+        refl refl
 
-    pub enter-taken : {mid new : List ℕ} {a : Answer} → h ≢ r → h ≢ 0 → (b : Becomes n old mid (changed (put (failed r) 1 (s .fields)) ((r, lock l) ∷ []) s))
-        → Gives n mid new a (finish model (put (failed r) 1 (s .fields)) (changed (put (failed r) 1 (s .fields)) ((r, lock l) ∷ []) s .queues) 0 0) → Does (Enter l) n old new s a
+    pub enter-taken : {mid new : List ℕ} {a : Answer} {others : ℕ} → h ≢ r → h ≢ 0
+        → (others ≡ length (aheadOf r (changed (put (failed r) 1 (s .fields)) ((r, lock l) ∷ []) s .queues (lock l)))) × Becomes n old mid (changed (put (failed r) 1 (s .fields)) ((r, lock l) ∷ []) s)
+        → Gives n mid new a (finish model (put (failed r) 1 (s .fields)) (changed (put (failed r) 1 (s .fields)) ((r, lock l) ∷ []) s .queues) 0 0 others) → Does (Enter l) n old new s a
     unfolding decide
-    enter-taken d e =
-        accepts H (Enter l) (put (failed r) 1 (s .fields)) ((r, lock l) ∷ []) 0 0
+    enter-taken d e t =
+        accepts H (Enter l) (put (failed r) 1 (s .fields)) ((r, lock l) ∷ []) 0 0 _
         (tested .passed z _ ∙ when-no 8 _ (foreign d) ∙ choose-no _ _ (eqb-no (s .fields (holder l)) 0 (λ k. e (eh ∙ k)))
         ∙ ap {A = ℕ} (λ x. accept (put (failed x) 1 (s .fields)) ((x, lock l) ∷ []) 0) (sym er))
-        refl
+        refl (t .0) (t .1)
 
     pub exit-foreign : {a : Answer} → h ≢ r → a ≡ refusal 9 → Does (Exit l) n old old s a
     unfolding decide
@@ -72,10 +73,10 @@ module _ {n : Shape} {old : List ℕ} {s : State model} (H : Holds n old s) (l :
 
     pub exit-own : {mid new : List ℕ} {a : Answer} {m : ℕ} → h ≡ r
         → (m ≡ length (firstOnly (s .queues (lock l)))) × Becomes n old mid (changed (put (holder l) 0 (s .fields)) (released (s .queues) l) s)
-        → Gives n mid new a (finish model (put (holder l) 0 (s .fields)) (changed (put (holder l) 0 (s .fields)) (released (s .queues) l) s .queues) 0 m) → Does (Exit l) n old new s a
+        → Gives n mid new a (finish model (put (holder l) 0 (s .fields)) (changed (put (holder l) 0 (s .fields)) (released (s .queues) l) s .queues) 0 m 0) → Does (Exit l) n old new s a
     unfolding decide
     exit-own e t =
-        accepts H (Exit l) (put (holder l) 0 (s .fields)) (released (s .queues) l) 0 _
+        accepts-ready H (Exit l) (put (holder l) 0 (s .fields)) (firstOnly (s .queues (lock l))) 0 _
         (tested .passed z _ ∙ when-no 9 _ (ap not (own e)))
         (t .0 ∙ sym (released-moved (n .processes) (s .queues) (H .placed .place) (H .placed .once) l)) (t .1)
 

@@ -12,7 +12,7 @@ use Rattle.model.specs.declared.Shape.{Shape}
 use Rattle.model.specs.declared.Ticks.{Ticks}
 use Rattle.model.specs.declared.Answer.{Answer}
 use Rattle.model.specs.declared.Call.the-variants.{Wait}
-use Rattle.model.specs.Queue.{Queue, bit, outside, member, count, firstOnly, remove, insert, move, toReady}
+use Rattle.model.specs.Queue.{Queue, bit, outside, member, count, firstOnly, aheadOf, remove, insert, move, toReady}
 use Rattle.model.specs.Queue.Queue.{ready, lock, condition}
 use Rattle.model.specs.Field.{Fields, put, priorities}
 use Rattle.model.specs.Field.Field.{clock, running, timer, holder, wakeup}
@@ -22,11 +22,11 @@ use Rattle.model.specs.Machine.{State, model, moves, arrivals, finish, refusal}
 use Rattle.model.specs.Valid.{Valid}
 use Rattle.model.proofs.Tests.{EqCase, holds, fails, eqb-case, eqb-yes, eqb-no}
 use Rattle.model.proofs.Lists.{count-remove-other, count-insert, member-count, counted-member}
-use Rattle.model.proofs.Places.{moves-append, arrivals-append}
+use Rattle.model.proofs.Places.{moves-append, arrivals-append, ahead-after}
 use Rattle.model.proofs.Loops.{released-moved}
 use Rattle.area.specs.Holds.{Holds, Becomes, with, sent, Gives}
 use Rattle.area.specs.Calls.{Does, CallingTwo, changed}
-use Rattle.moves.proofs.Outcomes.{when-yes, when-no, choose-yes, choose-no, Tested, two-tested, refuses, refuses-by, accepts}
+use Rattle.moves.proofs.Outcomes.{when-yes, when-no, choose-yes, choose-no, Tested, two-tested, refuses, refuses-by, accepts, accepts-ready}
 use Rattle.moves.proofs.Shared.{runner-stands}
 
 -- ---- the timer, 0 for none and 1 in the place of 0
@@ -101,21 +101,23 @@ module _ {n : Shape} {old : List ℕ} {s : State model} (H : Holds n old s) (l k
       came = em ∙ sym (released-moved (n .processes) (s .queues) (H .placed .place) (H .placed .once) l)
 
       pub wait-over : {mid new : List ℕ} {a : Answer} → w ≢ 0 → Becomes n old mid (with (wakeup k) 0 left)
-          → Gives n mid new a (finish model (put (wakeup k) 0 (left .fields)) (left .queues) 0 m) → Does (Wait l k t) n old new s a
+          → Gives n mid new a (finish model (put (wakeup k) 0 (left .fields)) (left .queues) 0 m 0) → Does (Wait l k t) n old new s a
       unfolding decide
       wait-over d =
-          accepts H (Wait l k t) (put (wakeup k) 0 (left .fields)) (released (s .queues) l) 0 m
+          accepts-ready H (Wait l k t) (put (wakeup k) 0 (left .fields)) (firstOnly (s .queues (lock l))) 0 m
           (tested .passed z _ ∙ when-no 9 _ own ∙ choose-yes _ _ (ap not (eqb-no (s .fields (wakeup k)) 0 (λ e. d (ew ∙ e)))))
           came
 
-      pub wait-sleeps : {mid new : List ℕ} {a : Answer} → w ≡ 0 → Becomes n old mid (changed asleep ((r, condition k) ∷ []) left)
-          → Gives n mid new a (finish model asleep (changed asleep ((r, condition k) ∷ []) left .queues) 1 m) → Does (Wait l k t) n old new s a
+      pub wait-sleeps : {mid new : List ℕ} {a : Answer} {others : ℕ} → w ≡ 0 → others ≡ length (aheadOf r (changed asleep ((r, condition k) ∷ []) left .queues (condition k)))
+          → Becomes n old mid (changed asleep ((r, condition k) ∷ []) left)
+          → Gives n mid new a (finish model asleep (changed asleep ((r, condition k) ∷ []) left .queues) 1 m others) → Does (Wait l k t) n old new s a
       unfolding decide
-      wait-sleeps {mid} {new} {a} e b g =
+      wait-sleeps {mid} {new} {a} {others} e h b g =
           let q = moves-append (priorities asleep) (released (s .queues) l) ((r, condition k) ∷ []) (s .queues) in
-          accepts H (Wait l k t) {mid = mid} {new = new} {a = a} asleep (released (s .queues) l ++ ((r, condition k) ∷ [])) 1 m
+          accepts H (Wait l k t) {mid = mid} {new = new} {a = a} asleep (released (s .queues) l ++ ((r, condition k) ∷ [])) 1 m others
           (tested .passed z _ ∙ when-no 9 _ own ∙ choose-no _ _ (ap not (eqb-yes (s .fields (wakeup k)) 0 (sym ew ∙ e)))
           ∙ ap {A = ℕ} (λ x. accept (put (timer x) (alarm (s .fields clock) (t .0)) (left .fields)) (released (s .queues) l ++ ((x, condition k) ∷ [])) 1) (sym er))
           (came ∙ (let d = arrivals-append (s .queues ready) (released (s .queues) l) ((r, condition k) ∷ []) in omega arith))
+          (h ∙ sym (rw q (ahead-after (changed asleep ((r, condition k) ∷ []) left .queues) (firstOnly (s .queues (lock l))) ((r, condition k) ∷ []))))
           (rw q b)
           (rw q g)

@@ -9,7 +9,7 @@ ghost use mathlib.Core.Bool.{true};
 ghost use mathlib.Core.List.{[], _∷_};
 ghost use lib.ListN.{length};
 ghost use Rattle.model.specs.declared.Call.the-variants.{Enter, Exit};
-ghost use Rattle.model.specs.Queue.{Queue, inside, member, firstOnly};
+ghost use Rattle.model.specs.Queue.{Queue, inside, member, aheadOf, firstOnly};
 ghost use Rattle.model.specs.Queue.Queue.{ready};
 ghost use Rattle.model.specs.Field.{put};
 ghost use Rattle.model.specs.Field.Field.{failed, holder};
@@ -39,17 +39,15 @@ fn release(area: &mut [u16], shape: Shape, lock: u16) -> u16
     1
 }
 
-// The running process p becomes failed and moves to the lock.
-fn block(area: &mut [u16], shape: Shape, lock: u16, p: u16)
+// The running process p becomes failed and moves to the lock. How many are ahead of it there.
+fn block(area: &mut [u16], shape: Shape, lock: u16, p: u16) -> u16
     requires { ⌜ ((s : State model) × Holds shape (now area) s × (member p (s .queues ready) ≡ true)) ⌝ }
     requires { ⌜ inside (shape .locks) lock ≡ true ⌝ }
-    ensures { λ _. ⌜ ((s : State model) → Holds shape (now (area .entry)) s → member p (s .queues ready) ≡ true → Becomes shape (now (area .entry)) (now (area .exit)) (changed (put (failed p) 1 (s .fields)) ((p, Queue.lock lock) ∷ []) s)) ⌝ }
+    ensures { λ r. ⌜ ((s : State model) → Holds shape (now (area .entry)) s → member p (s .queues ready) ≡ true → (r ≡ length (aheadOf p (changed (put (failed p) 1 (s .fields)) ((p, Queue.lock lock) ∷ []) s .queues (Queue.lock lock)))) × Becomes shape (now (area .entry)) (now (area .exit)) (changed (put (failed p) 1 (s .fields)) ((p, Queue.lock lock) ∷ []) s)) ⌝ }
 {
     area::put(area, places::failed(shape, p), 1);
-    let from = area::ready_at();
     let to = area::lock_at(shape, lock);
-    let base = area::records_at(shape);
-    moves::send(area, base, from, to, p, 0);
+    moves::queue(area, shape, to, p, 0)
 }
 
 pub fn enter(area: &mut [u16], shape: Shape, lock: u16) -> Answer
@@ -67,10 +65,10 @@ pub fn enter(area: &mut [u16], shape: Shape, lock: u16) -> Answer
     }
     if holder == 0 {
         area::set_holder(area, shape, lock, running);
-        return answers::finish(area, shape, 1, 0);
+        return answers::finish(area, shape, 1, 0, 0);
     }
-    block(area, shape, lock, running);
-    answers::finish(area, shape, 0, 0)
+    let ahead = block(area, shape, lock, running);
+    answers::finish(area, shape, 0, 0, ahead)
 }
 
 pub fn exit(area: &mut [u16], shape: Shape, lock: u16) -> Answer
@@ -87,5 +85,5 @@ pub fn exit(area: &mut [u16], shape: Shape, lock: u16) -> Answer
         return answers::refusal(9);
     }
     let moved = release(area, shape, lock);
-    answers::finish(area, shape, 0, moved)
+    answers::finish(area, shape, 0, moved, 0)
 }

@@ -9,8 +9,9 @@ use moves::codes;
 ghost use mathlib.Core.Path.{_≡_};
 ghost use mathlib.Core.Bool.{true};
 ghost use mathlib.Core.List.{[], _∷_};
+ghost use lib.ListN.{length};
 ghost use Rattle.model.specs.declared.Call.the-variants.{Wait};
-ghost use Rattle.model.specs.Queue.{Queue, inside, member};
+ghost use Rattle.model.specs.Queue.{Queue, inside, member, aheadOf};
 ghost use Rattle.model.specs.Queue.Queue.{ready};
 ghost use Rattle.model.specs.Field.{put};
 ghost use Rattle.model.specs.Field.Field.{clock, timer};
@@ -34,20 +35,18 @@ fn alarm_at(now: u16, t: u16) -> u16
     due
 }
 
-// The running process p sets its timer and moves to the condition.
-fn sleep(area: &mut [u16], shape: Shape, condition: u16, p: u16, ticks: Ticks)
+// The running process p sets its timer and moves to the condition. How many are ahead of it there.
+fn sleep(area: &mut [u16], shape: Shape, condition: u16, p: u16, ticks: Ticks) -> u16
     requires { ⌜ ((s : State model) × Holds shape (now area) s × (member p (s .queues ready) ≡ true)) ⌝ }
     requires { ⌜ inside (shape .conditions) condition ≡ true ⌝ }
-    ensures { λ _. ⌜ ((s : State model) → Holds shape (now (area .entry)) s → member p (s .queues ready) ≡ true → Becomes shape (now (area .entry)) (now (area .exit)) (changed (put (timer p) (alarm (s .fields clock) (ticks .0)) (s .fields)) ((p, Queue.condition condition) ∷ []) s)) ⌝ }
+    ensures { λ r. ⌜ ((s : State model) → Holds shape (now (area .entry)) s → member p (s .queues ready) ≡ true → (r ≡ length (aheadOf p (changed (put (timer p) (alarm (s .fields clock) (ticks .0)) (s .fields)) ((p, Queue.condition condition) ∷ []) s .queues (Queue.condition condition)))) × Becomes shape (now (area .entry)) (now (area .exit)) (changed (put (timer p) (alarm (s .fields clock) (ticks .0)) (s .fields)) ((p, Queue.condition condition) ∷ []) s)) ⌝ }
 {
     let now = area::get(area, places::clock());
     let t = ticks.0;
     let due = alarm_at(now, t);
     area::put(area, places::timer(shape, p), due);
-    let from = area::ready_at();
     let to = area::condition_at(shape, condition);
-    let base = area::records_at(shape);
-    moves::send(area, base, from, to, p, 1);
+    moves::queue(area, shape, to, p, 1)
 }
 
 pub fn wait(area: &mut [u16], shape: Shape, lock: u16, condition: u16, ticks: Ticks) -> Answer
@@ -67,8 +66,8 @@ pub fn wait(area: &mut [u16], shape: Shape, lock: u16, condition: u16, ticks: Ti
     let wakeup = area::get(area, places::wakeup(shape, condition));
     if wakeup != 0 {
         area::put(area, places::wakeup(shape, condition), 0);
-        return answers::finish(area, shape, 0, moved);
+        return answers::finish(area, shape, 0, moved, 0);
     }
-    sleep(area, shape, condition, running, ticks);
-    answers::finish(area, shape, 1, moved)
+    let ahead = sleep(area, shape, condition, running, ticks);
+    answers::finish(area, shape, 1, moved, ahead)
 }

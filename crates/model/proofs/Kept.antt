@@ -17,14 +17,14 @@ use Rattle.model.specs.Field.{Field, Fields, put, some, priorities}
 use Rattle.model.specs.Field.Field.{clock, running, priority, timer, failed, holder, wakeup}
 use Rattle.model.specs.Rules.{Effect, decide, nakedly, released, calm, alarm, readyOrPark, due, counted, anyAbove, startCode, fresh}
 use Rattle.model.specs.Rules.Effect.{refuse, accept}
-use Rattle.model.specs.Machine.{State, model, moves, dispatch, retry, arrivals, finish, obey, step, after, start}
+use Rattle.model.specs.Machine.{State, model, moves, dispatch, retry, arrivals, ahead, finish, obey, step, after, start}
 use Rattle.model.specs.Valid.{room, Valid}
 use Rattle.model.proofs.Tests.{holds, fails, so, not-so, stops, EqCase, eqb-case, eqb-yes, LeCase, leb-case, same-case, put-here, or-split, not-false, not-below, bit-small, inside-bounds, bounds-inside, outside-inside}
 use Rattle.model.proofs.Lists.{member-here, member-there, first-there, first-member, firstOnly-member, filter-member, upTo-member, filter-length, all-append}
 use Rattle.model.proofs.Fields.{calm-timer, dispatch-priorities, dispatch-running}
 use Rattle.model.proofs.Accepted.{Accepted, accepted, Marked, when-by, choose-by, nakedly-by, of-refuse, decide-marks}
 use Rattle.model.proofs.Simulation.{Bounded, Ranked, decide-keeps}
-use Rattle.model.proofs.Places.{sent, relocate, relocate-append, arrivals-few, arrivals-append, Stands, Movers, stands-moves, member-is, stands-at, queue-length, falling-all, falling-moves, stands-start}
+use Rattle.model.proofs.Places.{sent, relocate, relocate-append, arrivals-few, arrivals-append, ahead-few, Stands, Movers, stands-moves, member-is, stands-at, queue-length, falling-all, falling-moves, stands-start}
 use Rattle.model.proofs.Good.{Fits, Good, good-put, good-zero, good-calm, good-move, good-ready, each-most, each-none, each-low, of-valid, to-valid}
 
 -- ---- moves of a call
@@ -234,9 +234,9 @@ dispatch-steady : (n : Shape) (g : Fields) (xs : List ℕ) → ((f : Field) → 
 dispatch-steady n g [] k = each-none (n .processes) 0 2 (g (failed 0)) refl (k (failed 0))
 dispatch-steady n g (x ∷ xs) k = put-here (failed x) 0 (put running x g)
 
-finish-valid : (n : Shape) (g : Fields) (qs : Queue → List ℕ) (place : ℕ → Queue) (k a : ℕ) → counted n ≡ true → Good n g place → Stands (n .processes) qs place → ((q : Queue) → Falling (priorities g) (qs q))
-    → Valid n ((finish model g qs k a) .0)
-finish-valid n g qs place k a counts good st falls = to-valid n ((finish model g qs k a) .0) counts place
+finish-valid : (n : Shape) (g : Fields) (qs : Queue → List ℕ) (place : ℕ → Queue) (k a b : ℕ) → counted n ≡ true → Good n g place → Stands (n .processes) qs place → ((q : Queue) → Falling (priorities g) (qs q))
+    → Valid n ((finish model g qs k a b) .0)
+finish-valid n g qs place k a b counts good st falls = to-valid n ((finish model g qs k a b) .0) counts place
     (dispatch-good n g place (qs ready) (λ h. stands-at (n .processes) qs place st (first (qs ready)) ready (first-there (qs ready) h)) good) st
     (λ q. subst (λ (pr : ℕ → ℕ). Falling pr (qs q)) (sym (dispatch-priorities (qs ready) g)) (falls q))
     (dispatch-running (qs ready) g) (dispatch-steady n g (qs ready) (good .range))
@@ -250,7 +250,8 @@ valid-bounded n s h p = let k = each-most (n .processes) p 8 (s (priority p)) (h
 obey-valid : (n : Shape) (s : State model) (v : Valid n s) (e : Effect) → Accepted (Ranked (priorities (s .fields))) e → Accepted (Fine n (v .placed .place)) e → Valid n ((obey model s e) .0)
 obey-valid n s v (refuse k) h r = v
 obey-valid n s v (accept g ms k) (accepted h) (accepted r) =
-    finish-valid n g (moves model (priorities g) (s .queues) ms) (relocate (v .placed .place) ms) k (arrivals (s .queues ready) ms) (v .placed .counts) (r .good)
+    let qs = moves model (priorities g) (s .queues) ms in
+    finish-valid n g qs (relocate (v .placed .place) ms) k (arrivals (s .queues ready) ms) (ahead qs ms) (v .placed .counts) (r .good)
     (stands-moves (n .processes) (priorities g) ms (s .queues) (v .placed .place) (v .placed .once) (r .movers)) (falling-moves (priorities (s .fields)) (priorities g) ms (s .queues) (h .0) (v .placed .falls))
 
 pub step-valid : (n : Shape) (s : State model) (c : Call) → Valid n s → Valid n ((step model n s c) .0)
@@ -318,7 +319,7 @@ pub start-valid : (n : Shape) (bytes : List ℕ) → startCode n bytes ≡ 0 →
 start-valid n bytes ok =
     let h = given n bytes ok in
     let pr = priorities (fresh bytes) in
-    finish-valid n (fresh bytes) (moves model pr (λ q. []) (toReady (upTo (n .processes)))) (λ p. ready) 0 0 (h .counts) (fresh-good n bytes h)
+    finish-valid n (fresh bytes) (moves model pr (λ q. []) (toReady (upTo (n .processes)))) (λ p. ready) 0 0 0 (h .counts) (fresh-good n bytes h)
     (stands-start pr (n .processes)) (falling-all pr (toReady (upTo (n .processes))) (λ q. []) (λ q. tt))
 
 -- ---- answers are small
@@ -329,24 +330,28 @@ pub record Small (n : Shape) (a : Answer) : Type 0 where
   pub retry : a .retry ≤ 1
   pub mark : a .mark ≤ 1
   pub moved : a .moved ≤ n .processes
+  pub ahead : a .ahead ≤ n .processes
 
 retry-small : (n : Shape) (g : Fields) (xs : List ℕ) → ((f : Field) → g f < room n f) → retry xs g ≤ 1
 retry-small n g [] h = omega arith
 retry-small n g (x ∷ xs) h = let k = each-most (n .processes) x 2 (g (failed x)) (h (failed x)) (omega arith) in omega arith
 
-finish-small : (n : Shape) (g : Fields) (qs : Queue → List ℕ) (k a : ℕ) → Valid n ((finish model g qs k a) .0) → ((f : Field) → g f < room n f) → k ≤ 1 → a ≤ n .processes → Small n ((finish model g qs k a) .1)
-finish-small n g qs k a v h m d = record {
+finish-small : (n : Shape) (g : Fields) (qs : Queue → List ℕ) (k a b : ℕ) → Valid n ((finish model g qs k a b) .0) → ((f : Field) → g f < room n f) → k ≤ 1 → a ≤ n .processes → b ≤ n .processes → Small n ((finish model g qs k a b) .1)
+finish-small n g qs k a b v h m d e = record {
   code = omega arith;
-  running = let w = v .placed .range running in let e = dispatch-running (qs ready) g in omega arith;
+  running = let w = v .placed .range running in let r = dispatch-running (qs ready) g in omega arith;
   retry = retry-small n g (qs ready) h;
   mark = m;
   moved = d;
+  ahead = e;
 }
 
 obey-small : (n : Shape) (s : State model) (v : Valid n s) (e : Effect) → Valid n ((obey model s e) .0) → Accepted Marked e → Accepted (Fine n (v .placed .place)) e → Small n ((obey model s e) .1)
-obey-small n s v (refuse k) w h r = let b = of-refuse h in record { code = b .1; running = omega arith; retry = omega arith; mark = omega arith; moved = omega arith }
+obey-small n s v (refuse k) w h r = let b = of-refuse h in record { code = b .1; running = omega arith; retry = omega arith; mark = omega arith; moved = omega arith; ahead = omega arith }
 obey-small n s v (accept g ms k) w (accepted h) (accepted r) =
-    finish-small n g (moves model (priorities g) (s .queues) ms) k (arrivals (s .queues ready) ms) w (r .good .range) (so (leb-case k 1) h) (r .few (s .queues ready))
+    let qs = moves model (priorities g) (s .queues) ms in
+    finish-small n g qs k (arrivals (s .queues ready) ms) (ahead qs ms) w (r .good .range) (so (leb-case k 1) h) (r .few (s .queues ready))
+    (ahead-few qs ms (λ q. queue-length (n .processes) qs (w .placed .place) (w .placed .once) q))
 
 pub step-small : (n : Shape) (s : State model) (c : Call) → Valid n s → Small n ((step model n s c) .1)
 unfolding step
@@ -354,4 +359,4 @@ step-small n s c v = obey-small n s v (decide n (s .fields) (s .queues) c) (step
 
 pub start-small : (n : Shape) (bytes : List ℕ) → startCode n bytes ≡ 0 → Small n ((start model n bytes) .1)
 start-small n bytes ok =
-    finish-small n (fresh bytes) (moves model (priorities (fresh bytes)) (λ q. []) (toReady (upTo (n .processes)))) 0 0 (start-valid n bytes ok) (fresh-range n bytes (given n bytes ok)) (omega arith) (omega arith)
+    finish-small n (fresh bytes) (moves model (priorities (fresh bytes)) (λ q. []) (toReady (upTo (n .processes)))) 0 0 0 (start-valid n bytes ok) (fresh-range n bytes (given n bytes ok)) (omega arith) (omega arith) (omega arith)

@@ -30,7 +30,7 @@ abbrev Balanced : Fields → ℕ → Call → Answer → Fields → Type 0
 Balanced s l c a g = held s l + bit (isEntry l c a) ≡ bit (isLeaving l c a) + held g l
 
 abbrev accepting : ℕ → Answer → Answer
-accepting k a = record { code = 0; running = a .running; retry = a .retry; mark = k; moved = a .moved }
+accepting k a = record { code = 0; running = a .running; retry = a .retry; mark = k; moved = a .moved; ahead = a .ahead }
 
 abbrev Fair : Fields → ℕ → Call → Fields → List Note → ℕ → Type 0
 Fair s l c g ms k = (a : Answer) → Balanced s l c (accepting k a) g

@@ -8,9 +8,10 @@ use mathlib.Core.List.{List, [], _∷_, _++_}
 use lib.Dec.{eqb}
 use lib.ListN.{length}
 use Rattle.model.specs.declared.Shape.{Shape}
-use Rattle.model.specs.Queue.{Queue, Note, inside, upTo, anyOf, bit, same, exists, member, count, remove, insert, move, toReady, All, Falling, isCondition}
+use Rattle.model.specs.Queue.{Queue, Note, inside, upTo, anyOf, bit, same, exists, member, count, takeWhile, remove, insert, move, toReady, All, Falling, isCondition}
 use Rattle.model.specs.Queue.Queue.{ready, park, lock, condition}
-use Rattle.model.specs.Machine.{model, moves, arrivals, waiting}
+use Rattle.model.specs.Rules.{readyOrPark}
+use Rattle.model.specs.Machine.{model, moves, arrivals, ahead, waiting}
 use Rattle.model.proofs.Tests.{holds, fails, so, EqCase, eqb-case, eqb-yes, same-case, same-yes, and-split, bit-small, inside-bounds, bounds-inside}
 use Rattle.model.proofs.Lists.{count-remove-same, count-remove-other, count-insert, member-bit, at-most, inside-suc, SameOff, falling-remove, falling-insert}
 use Rattle.model.proofs.Simulation.{Agree, alike, lead}
@@ -44,6 +45,39 @@ arrivals-few rs (x ∷ xs) = let a = arrivals-few rs xs in let b = bit-small (no
 pub arrivals-append : (rs : List ℕ) (xs ys : List Note) → arrivals rs (xs ++ ys) ≡ arrivals rs xs + arrivals rs ys
 arrivals-append rs [] ys = omega arith
 arrivals-append rs (m ∷ xs) ys = let k = arrivals-append rs xs ys in omega arith
+
+-- no more are ahead than stand in a queue
+take-few : (t : ℕ → Bool) (xs : List ℕ) → length (takeWhile t xs) ≤ length xs
+take-few t [] = omega arith
+take-few t (x ∷ xs) = go (t x) (take-few t xs)
+  where
+    go : (b : Bool) → length (takeWhile t xs) ≤ length xs → length (cond b (x ∷ takeWhile t xs) []) ≤ length (x ∷ xs)
+    go true h = omega arith
+    go false h = omega arith
+
+pub ahead-few : {m : ℕ} (qs : Queue → List ℕ) (ms : List Note) → ((q : Queue) → length (qs q) ≤ m) → ahead qs ms ≤ m
+ahead-few qs [] h = omega arith
+ahead-few qs ((p, ready) ∷ ms) h = ahead-few qs ms h
+ahead-few qs ((p, park k) ∷ ms) h = ahead-few qs ms h
+ahead-few qs ((p, lock l) ∷ ms) h = let a = take-few (λ x. not (eqb x p)) (qs (lock l)) in let b = h (lock l) in omega arith
+ahead-few qs ((p, condition c) ∷ ms) h = let a = take-few (λ x. not (eqb x p)) (qs (condition c)) in let b = h (condition c) in omega arith
+
+-- moves to ready say nothing of who is ahead
+pub ahead-ready : (qs : Queue → List ℕ) (xs : List ℕ) → ahead qs (toReady xs) ≡ 0
+ahead-ready qs [] = refl
+ahead-ready qs (x ∷ xs) = ahead-ready qs xs
+
+pub ahead-after : (qs : Queue → List ℕ) (xs : List ℕ) (ms : List Note) → ahead qs (toReady xs ++ ms) ≡ ahead qs ms
+ahead-after qs [] ms = refl
+ahead-after qs (x ∷ xs) ms = ahead-after qs xs ms
+
+-- nor does one to ready or a park
+pub ahead-park : (qs : Queue → List ℕ) (p k : ℕ) → ahead qs ((p, readyOrPark k) ∷ []) ≡ 0
+ahead-park qs p k = go (eqb k 0)
+  where
+    go : (b : Bool) → ahead qs ((p, cond b ready (park k)) ∷ []) ≡ 0
+    go true = refl
+    go false = refl
 
 -- ---- a move, seen by one process and one queue
 

@@ -6,22 +6,24 @@ use mathlib.Core.Logic.{_≢_}
 use mathlib.Core.Bool.{Bool, true, _&&_, cond, true≢false}
 use mathlib.Core.List.{List, [], _∷_, _++_}
 use lib.Dec.{eqb}
+use lib.ListN.{length}
 use Rattle.model.specs.declared.Shape.{Shape}
 use Rattle.model.specs.declared.Call.{Call}
-use Rattle.model.specs.declared.Call.the-variants.{Enter, Exit, Wait, Notify, Broadcast}
+use Rattle.model.specs.declared.Call.the-variants.{Enter, Exit, Wait, Notify, Broadcast, Naked, Requeue, SetPriority, Tick}
 use Rattle.model.specs.declared.Ticks.{Ticks}
 use Rattle.model.specs.declared.Answer.{Answer}
-use Rattle.model.specs.Queue.{Queue, Note, inside, upTo, member, first, firstOnly, insert, toReady, All}
-use Rattle.model.specs.Queue.Queue.{ready, condition}
+use Rattle.model.specs.Queue.{Queue, Note, inside, upTo, member, first, firstOnly, aheadOf, insert, toReady, All}
+use Rattle.model.specs.Queue.Queue.{ready, lock, condition}
 use Rattle.model.specs.Field.{Field, Fields, put, some, priorities}
 use Rattle.model.specs.Field.Field.{running, timer, failed, holder, wakeup}
-use Rattle.model.specs.Rules.{Effect, decide, released, alarm, due}
+use Rattle.model.specs.Rules.{Effect, nakedly, decide, released, alarm, due}
 use Rattle.model.specs.Rules.Effect.{refuse, accept}
-use Rattle.model.specs.Machine.{Machine, State, moves, refusal, dispatch, retry, arrivals, finish, obey, step}
+use Rattle.model.specs.Machine.{Machine, State, moves, refusal, dispatch, retry, arrivals, ahead, finish, obey, step}
 use Rattle.model.proofs.Tests.{holds, fails, so, not-so, EqCase, eqb-case, eqb-yes, eqb-no, put-here, put-away, and-split, not-true}
 use Rattle.model.proofs.Lists.{filter-member, member-filter, member-upTo, insert-skip, insert-front}
 use Rattle.model.proofs.Fields.{calm-away, dispatch-priorities, dispatch-running}
-use Rattle.model.proofs.Accepted.{Accepted, accepted, when-by, choose-by}
+use Rattle.model.proofs.Accepted.{Accepted, accepted, when-by, choose-by, nakedly-by, of-refuse}
+use Rattle.model.proofs.Places.{ahead-ready, ahead-after, ahead-park}
 
 -- a newcomer goes behind its equals
 pub behind-equals : (pr : ℕ → ℕ) (p : ℕ) (xs ys : List ℕ) → All (λ x. pr p ≤ pr x) xs → All (λ y. pr y < pr p) ys → insert pr p (xs ++ ys) ≡ xs ++ (p ∷ ys)
@@ -96,8 +98,8 @@ pub record Ended (M : Machine) (g : Fields) (r : State M × Answer) : Type 0 whe
   pub others : (f : Field) → running ≢ f → failed (r .0 .fields running) ≢ f → r .0 .fields f ≡ g f
 
 -- dispatch ends Start and every accepted call so
-pub finish-ends : (M : Machine) (g : Fields) (q : M .Queues) (k came : ℕ) → Ended M g (finish M g q k came)
-finish-ends M g q k came = record {
+pub finish-ends : (M : Machine) (g : Fields) (q : M .Queues) (k came others : ℕ) → Ended M g (finish M g q k came others)
+finish-ends M g q k came others = record {
   runs = dispatch-running inReady g ∙ ap first (sym again);
   says = sym (dispatch-running inReady g);
   clears = λ x xs e. clears-go inReady x xs (sym again ∙ e);
@@ -139,4 +141,50 @@ module _ (M : Machine) (n : Shape) (s : State M) (c : Call) where
   -- an accepted call ends with dispatch
   pub accepted-ends : (g : Fields) (ms : List Note) (k : ℕ) → effect ≡ accept g ms k → Ended M g (step M n s c)
   unfolding step
-  accepted-ends g ms k e = rw e (finish-ends M g (moves M (priorities g) (s .queues) ms) k (arrivals (M .read (priorities (s .fields)) (s .queues) ready) ms))
+  accepted-ends g ms k e =
+      let q = moves M (priorities g) (s .queues) ms in
+      rw e (finish-ends M g q k (arrivals (M .read (priorities (s .fields)) (s .queues) ready) ms) (ahead (M .read (priorities g) q) ms))
+
+-- ---- who is told how many are ahead
+
+-- Enter with mark 0 and Wait with mark 1: how many stand before their caller in the queue that it joined. All others: nothing
+abbrev pub carried : Call → ℕ → ℕ → (Queue → List ℕ) → ℕ
+carried (Enter l) k p qs = cond (eqb k 0) (length (aheadOf p (qs (lock l)))) 0
+carried (Exit l) k p qs = 0
+carried (Wait l c t) k p qs = cond (eqb k 1) (length (aheadOf p (qs (condition c)))) 0
+carried (Notify c) k p qs = 0
+carried (Broadcast c) k p qs = 0
+carried (Naked c) k p qs = 0
+carried (Requeue a b x) k p qs = 0
+carried (SetPriority v) k p qs = 0
+carried Tick k p qs = 0
+
+-- so it is said of the moves of each call
+decide-carries : (n : Shape) (s : Fields) (qs : Queue → List ℕ) (c : Call) → Accepted (λ g ms k. (rs : Queue → List ℕ) → ahead rs ms ≡ carried c k (s running) rs) (decide n s qs c)
+unfolding decide nakedly
+decide-carries n s qs (Enter l) =
+    when-by _ refl (λ _. when-by _ refl (λ _. when-by _ refl (λ _. choose-by (λ _. accepted (λ rs. refl)) (λ _. accepted (λ rs. refl)))))
+decide-carries n s qs (Exit l) = when-by _ refl (λ _. when-by _ refl (λ _. when-by _ refl (λ _. accepted (λ rs. ahead-ready rs (firstOnly (qs (lock l)))))))
+decide-carries n s qs (Wait l c t) =
+    when-by _ refl (λ _. when-by _ refl (λ _. when-by _ refl (λ _. choose-by
+    (λ _. accepted (λ rs. ahead-ready rs (firstOnly (qs (lock l)))))
+    (λ _. accepted (λ rs. ahead-after rs (firstOnly (qs (lock l))) ((s running, condition c) ∷ []))))))
+decide-carries n s qs (Notify c) = when-by _ refl (λ _. when-by _ refl (λ _. accepted (λ rs. ahead-ready rs (firstOnly (qs (condition c))))))
+decide-carries n s qs (Broadcast c) = when-by _ refl (λ _. when-by _ refl (λ _. accepted (λ rs. ahead-ready rs (qs (condition c)))))
+decide-carries n s qs (Naked c) = when-by _ refl (λ _. nakedly-by c (qs (condition c)) s (λ _. accepted (λ rs. refl)) (λ x ys _. accepted (λ rs. refl)))
+decide-carries n s qs (Requeue a b p) = when-by _ refl (λ _. when-by _ refl (λ _. accepted (λ rs. ahead-park rs (p .0) b)))
+decide-carries n s qs (SetPriority v) = when-by _ refl (λ _. when-by _ refl (λ _. accepted (λ rs. refl)))
+decide-carries n s qs Tick = accepted (λ rs. ahead-ready rs (due n s _))
+
+-- and so of the answer of every accepted call, by the queues after it
+pub ahead-told : (M : Machine) (n : Shape) (s : State M) (c : Call) → (step M n s c) .1 .code ≡ 0
+    → (step M n s c) .1 .ahead ≡ carried c ((step M n s c) .1 .mark) (s .fields running) (M .read (priorities ((step M n s c) .0 .fields)) ((step M n s c) .0 .queues))
+unfolding step
+ahead-told M n s c = go (effect M n s c) (decide-carries n (s .fields) (M .read (priorities (s .fields)) (s .queues)) c)
+  where
+    go : (e : Effect) → Accepted (λ g ms k. (rs : Queue → List ℕ) → ahead rs ms ≡ carried c k (s .fields running) rs) e → (obey M s e) .1 .code ≡ 0
+        → (obey M s e) .1 .ahead ≡ carried c ((obey M s e) .1 .mark) (s .fields running) (M .read (priorities ((obey M s e) .0 .fields)) ((obey M s e) .0 .queues))
+    go (refuse k) h z = let b = of-refuse h in let w : ⊥ = omega (arith, b .0, z) in absurd w
+    go (accept g ms k) (accepted h) z =
+        let q = moves M (priorities g) (s .queues) ms in
+        rw (dispatch-priorities (M .read (priorities g) q ready) g) (h (M .read (priorities g) q))

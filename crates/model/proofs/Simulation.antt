@@ -12,7 +12,7 @@ use Rattle.model.specs.Field.{Fields, put, priorities}
 use Rattle.model.specs.Field.Field.{running, priority}
 use Rattle.model.specs.Rules.{Effect, decide, nakedly, calm, due, fresh}
 use Rattle.model.specs.Rules.Effect.{refuse, accept}
-use Rattle.model.specs.Machine.{State, model, moves, arrivals, finish, obey, step, after, answers, start}
+use Rattle.model.specs.Machine.{State, model, moves, arrivals, ahead, finish, obey, step, after, answers, start}
 use Rattle.model.specs.Ledger.{ledger, reading}
 use Rattle.model.proofs.Tests.{PutCase, holds, fails, put-case, put-away, not-below}
 use Rattle.model.proofs.Lists.{SameOff}
@@ -89,14 +89,15 @@ module _ (n : Shape) (s : Fields) (qs : Queue → List ℕ) (h : Bounded (priori
 abbrev pub both : State ledger × Answer → State model × Answer
 both r = (view (r .0), r .1)
 
-finish-view : (g : Fields) (ns : List Note) (k a : ℕ) → finish model g (reading (priorities g) ns) k a ≡ both (finish ledger g ns k a)
-finish-view g ns k a = rw (dispatch-priorities (reading (priorities g) ns ready) g)
+finish-view : (g : Fields) (ns : List Note) (k a b : ℕ) → finish model g (reading (priorities g) ns) k a b ≡ both (finish ledger g ns k a b)
+finish-view g ns k a b = rw (dispatch-priorities (reading (priorities g) ns ready) g)
 
 obey-view : (s : State ledger) (e : Effect) → Accepted (Ranked (priorities (s .fields))) e → obey model (view s) e ≡ both (obey ledger s e)
 obey-view s (refuse k) h = refl
 obey-view s (accept g ms k) (accepted h) =
     rw (← (reading-moves (priorities (s .fields)) (priorities g) ms (s .queues) (h .0) (h .1)))
-    (finish-view g (moves ledger (priorities g) (s .queues) ms) k (arrivals (reading (priorities (s .fields)) (s .queues) ready) ms))
+    (let ns = moves ledger (priorities g) (s .queues) ms in
+    finish-view g ns k (arrivals (reading (priorities (s .fields)) (s .queues) ready) ms) (ahead (reading (priorities g) ns) ms))
 
 pub step-view : (n : Shape) (s : State ledger) (c : Call) → Bounded (priorities (s .fields)) → step model n (view s) c ≡ both (step ledger n s c)
 unfolding step
@@ -124,7 +125,7 @@ answers-view n (c ∷ cs) s h =
 
 pub start-view : (n : Shape) (bytes : List ℕ) → Bounded (priorities (fresh bytes)) → start model n bytes ≡ both (start ledger n bytes)
 start-view n bytes h =
-    ap {A = Queue → List ℕ} (λ q. finish model (fresh bytes) q 0 0)
+    ap {A = Queue → List ℕ} (λ q. finish model (fresh bytes) q 0 0 0)
     (ap {A = Queue → List ℕ} (λ q. moves model (priorities (fresh bytes)) q (toReady (upTo (n .processes)))) (sym (reading-none (priorities (fresh bytes))))
     ∙ sym (reading-all (priorities (fresh bytes)) (toReady (upTo (n .processes))) [] h))
-    ∙ finish-view (fresh bytes) (moves ledger (priorities (fresh bytes)) [] (toReady (upTo (n .processes)))) 0 0
+    ∙ finish-view (fresh bytes) (moves ledger (priorities (fresh bytes)) [] (toReady (upTo (n .processes)))) 0 0 0

@@ -23,12 +23,12 @@ use Rattle.model.specs.Table.{Row, Holds}
 abbrev Turn : Type 0
 Turn = Call × List ℕ
 
-abbrev gives : Call → ℕ → ℕ → ℕ → ℕ → ℕ → Turn
-gives c code runs retry mark moved = (c, code ∷ runs ∷ retry ∷ mark ∷ moved ∷ [])
+abbrev gives : Call → ℕ → ℕ → ℕ → ℕ → ℕ → ℕ → Turn
+gives c code runs retry mark moved ahead = (c, code ∷ runs ∷ retry ∷ mark ∷ moved ∷ ahead ∷ [])
 
 -- a refusal
 abbrev refuses : Call → ℕ → Turn
-refuses c code = gives c code 0 0 0 0
+refuses c code = gives c code 0 0 0 0 0
 
 -- P processes, L locks, C conditions, K parks
 abbrev sized : ℕ → ℕ → ℕ → ℕ → Shape
@@ -57,7 +57,7 @@ late M =
 -- nobody runs: 6 comes before 7, 9 and 4; a device and Requeue need no running process; 7 before 10
 abbrev nobodyRuns : Machine → Row
 nobodyRuns M = play M (sized 1 1 1 1) (0 ∷ [])
-    (gives (Requeue 0 1 (record { 0 = 1 })) 0 0 0 0 0
+    (gives (Requeue 0 1 (record { 0 = 1 })) 0 0 0 0 0 0
     ∷ refuses (Enter 9) 6
     ∷ refuses (Exit 9) 6
     ∷ refuses (Wait 9 9 (record { 0 = 0 })) 6
@@ -65,13 +65,13 @@ nobodyRuns M = play M (sized 1 1 1 1) (0 ∷ [])
     ∷ refuses (Broadcast 9) 6
     ∷ refuses (SetPriority (record { 0 = 8 })) 6
     ∷ refuses (Naked 9) 7
-    ∷ gives Tick 0 0 0 0 0
+    ∷ gives Tick 0 0 0 0 0 0
     ∷ refuses (Requeue 2 0 (record { 0 = 1 })) 7
     ∷ refuses (Requeue 0 2 (record { 0 = 1 })) 7
     ∷ refuses (Requeue 0 0 (record { 0 = 0 })) 7
     ∷ refuses (Requeue 0 0 (record { 0 = 2 })) 7
     ∷ refuses (Requeue 0 0 (record { 0 = 1 })) 10
-    ∷ gives (Requeue 1 0 (record { 0 = 1 })) 0 1 0 0 1
+    ∷ gives (Requeue 1 0 (record { 0 = 1 })) 0 1 0 0 1 0
     ∷ [])
     ((ready, 1 ∷ []) ∷ (park 1, []) ∷ [])
     ((clock, 1) ∷ (running, 1) ∷ [])
@@ -89,9 +89,9 @@ refusals M = play M (sized 2 1 1 0) (3 ∷ 3 ∷ [])
     ∷ refuses (Wait 1 2 (record { 0 = 0 })) 7
     ∷ refuses (Wait 0 1 (record { 0 = 0 })) 7
     ∷ refuses (Wait 2 1 (record { 0 = 0 })) 7
-    ∷ gives (Enter 1) 0 1 0 1 0
+    ∷ gives (Enter 1) 0 1 0 1 0 0
     ∷ refuses (Enter 1) 8
-    ∷ gives (Exit 1) 0 1 0 0 0
+    ∷ gives (Exit 1) 0 1 0 0 0 0
     ∷ refuses (Exit 1) 9
     ∷ refuses (Notify 0) 7
     ∷ refuses (Notify 2) 7
@@ -107,14 +107,14 @@ refusals M = play M (sized 2 1 1 0) (3 ∷ 3 ∷ [])
 -- Exit hands the lock to nobody; a free lock is taken though others queue there; a failed process that runs again is retried
 abbrev exitToNobody : Machine → Row
 exitToNobody M = play M (sized 3 1 0 0) (1 ∷ 1 ∷ 1 ∷ [])
-    (gives (Enter 1) 0 1 0 1 0
-    ∷ gives (Requeue 0 0 (record { 0 = 1 })) 0 2 0 0 0
-    ∷ gives (Enter 1) 0 3 0 0 0
-    ∷ gives (Enter 1) 0 1 0 0 0
-    ∷ gives (Exit 1) 0 1 0 0 1
-    ∷ gives (Enter 1) 0 1 0 1 0
-    ∷ gives (Requeue 0 0 (record { 0 = 1 })) 0 2 1 0 0
-    ∷ gives (Enter 1) 0 1 0 0 0
+    (gives (Enter 1) 0 1 0 1 0 0
+    ∷ gives (Requeue 0 0 (record { 0 = 1 })) 0 2 0 0 0 0
+    ∷ gives (Enter 1) 0 3 0 0 0 0
+    ∷ gives (Enter 1) 0 1 0 0 0 1
+    ∷ gives (Exit 1) 0 1 0 0 1 0
+    ∷ gives (Enter 1) 0 1 0 1 0 0
+    ∷ gives (Requeue 0 0 (record { 0 = 1 })) 0 2 1 0 0 0
+    ∷ gives (Enter 1) 0 1 0 0 0 1
     ∷ [])
     ((ready, 1 ∷ []) ∷ (lock 1, 3 ∷ 2 ∷ []) ∷ [])
     ((running, 1) ∷ (holder 1, 1) ∷ (failed 2, 1) ∷ (failed 3, 1) ∷ [])
@@ -122,12 +122,12 @@ exitToNobody M = play M (sized 3 1 0 0) (1 ∷ 1 ∷ 1 ∷ [])
 -- after Exit the holder is 0 and its first stands in ready; when that failed process runs again it is retried, once
 abbrev exitFrees : Machine → Row
 exitFrees M = play M (sized 2 1 0 0) (1 ∷ 1 ∷ [])
-    (gives (Enter 1) 0 1 0 1 0
-    ∷ gives (Requeue 0 0 (record { 0 = 1 })) 0 2 0 0 0
-    ∷ gives (Enter 1) 0 1 0 0 0
-    ∷ gives (Exit 1) 0 1 0 0 1
-    ∷ gives (Requeue 0 0 (record { 0 = 1 })) 0 2 1 0 0
-    ∷ gives Tick 0 2 0 0 0
+    (gives (Enter 1) 0 1 0 1 0 0
+    ∷ gives (Requeue 0 0 (record { 0 = 1 })) 0 2 0 0 0 0
+    ∷ gives (Enter 1) 0 1 0 0 0 0
+    ∷ gives (Exit 1) 0 1 0 0 1 0
+    ∷ gives (Requeue 0 0 (record { 0 = 1 })) 0 2 1 0 0 0
+    ∷ gives Tick 0 2 0 0 0 0
     ∷ [])
     ((ready, 2 ∷ 1 ∷ []) ∷ (lock 1, []) ∷ [])
     ((running, 2) ∷ (holder 1, 0) ∷ (failed 2, 0) ∷ [])
@@ -135,10 +135,10 @@ exitFrees M = play M (sized 2 1 0 0) (1 ∷ 1 ∷ [])
 -- Naked over an empty queue sets the wakeup, as often as it comes; Wait then clears it, leaves the lock, and keeps its caller before its equals
 abbrev nakedTwice : Machine → Row
 nakedTwice M = play M (sized 3 1 1 0) (2 ∷ 2 ∷ 2 ∷ [])
-    (gives (Naked 1) 0 1 0 1 0
-    ∷ gives (Naked 1) 0 1 0 1 0
-    ∷ gives (Enter 1) 0 1 0 1 0
-    ∷ gives (Wait 1 1 (record { 0 = 5 })) 0 1 0 0 0
+    (gives (Naked 1) 0 1 0 1 0 0
+    ∷ gives (Naked 1) 0 1 0 1 0 0
+    ∷ gives (Enter 1) 0 1 0 1 0 0
+    ∷ gives (Wait 1 1 (record { 0 = 5 })) 0 1 0 0 0 0
     ∷ [])
     ((ready, 1 ∷ 2 ∷ 3 ∷ []) ∷ (condition 1, []) ∷ [])
     ((running, 1) ∷ (wakeup 1, 0) ∷ (timer 1, 0) ∷ (holder 1, 0) ∷ [])
@@ -146,11 +146,11 @@ nakedTwice M = play M (sized 3 1 1 0) (2 ∷ 2 ∷ 2 ∷ [])
 -- Wait over a set wakeup lets the first of the lock go to ready
 abbrev wakeupAndLock : Machine → Row
 wakeupAndLock M = play M (sized 2 1 1 0) (2 ∷ 2 ∷ [])
-    (gives (Enter 1) 0 1 0 1 0
-    ∷ gives (Requeue 0 0 (record { 0 = 1 })) 0 2 0 0 0
-    ∷ gives (Enter 1) 0 1 0 0 0
-    ∷ gives (Naked 1) 0 1 0 1 0
-    ∷ gives (Wait 1 1 (record { 0 = 0 })) 0 1 0 0 1
+    (gives (Enter 1) 0 1 0 1 0 0
+    ∷ gives (Requeue 0 0 (record { 0 = 1 })) 0 2 0 0 0 0
+    ∷ gives (Enter 1) 0 1 0 0 0 0
+    ∷ gives (Naked 1) 0 1 0 1 0 0
+    ∷ gives (Wait 1 1 (record { 0 = 0 })) 0 1 0 0 1 0
     ∷ [])
     ((ready, 1 ∷ 2 ∷ []) ∷ (lock 1, []) ∷ (condition 1, []) ∷ [])
     ((running, 1) ∷ (wakeup 1, 0) ∷ (holder 1, 0) ∷ (failed 2, 1) ∷ [])
@@ -158,9 +158,9 @@ wakeupAndLock M = play M (sized 2 1 1 0) (2 ∷ 2 ∷ [])
 -- Notify over an empty queue sets no wakeup, so a later Wait sleeps
 abbrev notifySetsNothing : Machine → Row
 notifySetsNothing M = play M (sized 2 1 1 0) (2 ∷ 2 ∷ [])
-    (gives (Notify 1) 0 1 0 0 0
-    ∷ gives (Enter 1) 0 1 0 1 0
-    ∷ gives (Wait 1 1 (record { 0 = 0 })) 0 2 0 1 0
+    (gives (Notify 1) 0 1 0 0 0 0
+    ∷ gives (Enter 1) 0 1 0 1 0 0
+    ∷ gives (Wait 1 1 (record { 0 = 0 })) 0 2 0 1 0 0
     ∷ [])
     ((ready, 2 ∷ []) ∷ (condition 1, 1 ∷ []) ∷ [])
     ((running, 2) ∷ (wakeup 1, 0) ∷ (holder 1, 0) ∷ [])
@@ -168,15 +168,15 @@ notifySetsNothing M = play M (sized 2 1 1 0) (2 ∷ 2 ∷ [])
 -- Notify and Naked wake the first of the queue alone, which stands by priority, and clear its timer
 abbrev notifyFirst : Machine → Row
 notifyFirst M = play M (sized 4 1 1 0) (2 ∷ 2 ∷ 3 ∷ 1 ∷ [])
-    (gives (Enter 1) 0 3 0 1 0
-    ∷ gives (Wait 1 1 (record { 0 = 9 })) 0 1 0 1 0
-    ∷ gives (Enter 1) 0 1 0 1 0
-    ∷ gives (Wait 1 1 (record { 0 = 9 })) 0 2 0 1 0
-    ∷ gives (Enter 1) 0 2 0 1 0
-    ∷ gives (Wait 1 1 (record { 0 = 9 })) 0 4 0 1 0
-    ∷ gives (Notify 1) 0 3 0 0 1
-    ∷ gives (Requeue 0 0 (record { 0 = 3 })) 0 3 0 0 0
-    ∷ gives (Naked 1) 0 3 0 0 1
+    (gives (Enter 1) 0 3 0 1 0 0
+    ∷ gives (Wait 1 1 (record { 0 = 9 })) 0 1 0 1 0 0
+    ∷ gives (Enter 1) 0 1 0 1 0 0
+    ∷ gives (Wait 1 1 (record { 0 = 9 })) 0 2 0 1 0 1
+    ∷ gives (Enter 1) 0 2 0 1 0 0
+    ∷ gives (Wait 1 1 (record { 0 = 9 })) 0 4 0 1 0 2
+    ∷ gives (Notify 1) 0 3 0 0 1 0
+    ∷ gives (Requeue 0 0 (record { 0 = 3 })) 0 3 0 0 0 0
+    ∷ gives (Naked 1) 0 3 0 0 1 0
     ∷ [])
     ((ready, 3 ∷ 1 ∷ 4 ∷ []) ∷ (condition 1, 2 ∷ []) ∷ [])
     ((running, 3) ∷ (timer 1, 0) ∷ (timer 2, 9) ∷ (timer 3, 0) ∷ (wakeup 1, 0) ∷ [])
@@ -184,17 +184,17 @@ notifyFirst M = play M (sized 4 1 1 0) (2 ∷ 2 ∷ 3 ∷ 1 ∷ [])
 -- Tick wakes in process order, not in the queue's, those whose timer is the clock, and no timer of 0
 abbrev tickInOrder : Machine → Row
 tickInOrder M = play M (sized 4 1 1 0) (3 ∷ 3 ∷ 3 ∷ 3 ∷ [])
-    (gives (Requeue 0 0 (record { 0 = 1 })) 0 2 0 0 0
-    ∷ gives (Enter 1) 0 2 0 1 0
-    ∷ gives (Wait 1 1 (record { 0 = 2 })) 0 3 0 1 0
-    ∷ gives (Requeue 0 0 (record { 0 = 3 })) 0 4 0 0 0
-    ∷ gives (Requeue 0 0 (record { 0 = 4 })) 0 1 0 0 0
-    ∷ gives (Enter 1) 0 1 0 1 0
-    ∷ gives (Wait 1 1 (record { 0 = 2 })) 0 3 0 1 0
-    ∷ gives (Enter 1) 0 3 0 1 0
-    ∷ gives (Wait 1 1 (record { 0 = 0 })) 0 4 0 1 0
-    ∷ gives Tick 0 4 0 0 0
-    ∷ gives Tick 0 4 0 0 2
+    (gives (Requeue 0 0 (record { 0 = 1 })) 0 2 0 0 0 0
+    ∷ gives (Enter 1) 0 2 0 1 0 0
+    ∷ gives (Wait 1 1 (record { 0 = 2 })) 0 3 0 1 0 0
+    ∷ gives (Requeue 0 0 (record { 0 = 3 })) 0 4 0 0 0 0
+    ∷ gives (Requeue 0 0 (record { 0 = 4 })) 0 1 0 0 0 0
+    ∷ gives (Enter 1) 0 1 0 1 0 0
+    ∷ gives (Wait 1 1 (record { 0 = 2 })) 0 3 0 1 0 1
+    ∷ gives (Enter 1) 0 3 0 1 0 0
+    ∷ gives (Wait 1 1 (record { 0 = 0 })) 0 4 0 1 0 2
+    ∷ gives Tick 0 4 0 0 0 0
+    ∷ gives Tick 0 4 0 0 2 0
     ∷ [])
     ((ready, 4 ∷ 1 ∷ 2 ∷ []) ∷ (condition 1, 3 ∷ []) ∷ [])
     ((clock, 2) ∷ (running, 4) ∷ (timer 1, 0) ∷ (timer 2, 0) ∷ (timer 3, 0) ∷ [])
@@ -202,13 +202,13 @@ tickInOrder M = play M (sized 4 1 1 0) (3 ∷ 3 ∷ 3 ∷ 3 ∷ [])
 -- Broadcast wakes all, in the queue's order, and counts them
 abbrev broadcastAll : Machine → Row
 broadcastAll M = play M (sized 3 1 1 0) (3 ∷ 3 ∷ 3 ∷ [])
-    (gives (Requeue 0 0 (record { 0 = 1 })) 0 2 0 0 0
-    ∷ gives (Enter 1) 0 2 0 1 0
-    ∷ gives (Wait 1 1 (record { 0 = 7 })) 0 3 0 1 0
-    ∷ gives (Requeue 0 0 (record { 0 = 3 })) 0 1 0 0 0
-    ∷ gives (Enter 1) 0 1 0 1 0
-    ∷ gives (Wait 1 1 (record { 0 = 7 })) 0 3 0 1 0
-    ∷ gives (Broadcast 1) 0 3 0 0 2
+    (gives (Requeue 0 0 (record { 0 = 1 })) 0 2 0 0 0 0
+    ∷ gives (Enter 1) 0 2 0 1 0 0
+    ∷ gives (Wait 1 1 (record { 0 = 7 })) 0 3 0 1 0 0
+    ∷ gives (Requeue 0 0 (record { 0 = 3 })) 0 1 0 0 0 0
+    ∷ gives (Enter 1) 0 1 0 1 0 0
+    ∷ gives (Wait 1 1 (record { 0 = 7 })) 0 3 0 1 0 1
+    ∷ gives (Broadcast 1) 0 3 0 0 2 0
     ∷ [])
     ((ready, 3 ∷ 2 ∷ 1 ∷ []) ∷ (condition 1, []) ∷ [])
     ((running, 3) ∷ (timer 1, 0) ∷ (timer 2, 0) ∷ [])
@@ -216,13 +216,13 @@ broadcastAll M = play M (sized 3 1 1 0) (3 ∷ 3 ∷ 3 ∷ [])
 -- Requeue moves behind the equals; only who comes into ready from another queue counts
 abbrev requeues : Machine → Row
 requeues M = play M (sized 3 0 0 2) (4 ∷ 4 ∷ 4 ∷ [])
-    (gives (Requeue 0 0 (record { 0 = 1 })) 0 2 0 0 0
-    ∷ gives (Requeue 0 1 (record { 0 = 2 })) 0 3 0 0 0
-    ∷ gives (Requeue 1 1 (record { 0 = 2 })) 0 3 0 0 0
-    ∷ gives (Requeue 1 2 (record { 0 = 2 })) 0 3 0 0 0
-    ∷ gives (Requeue 0 2 (record { 0 = 3 })) 0 1 0 0 0
-    ∷ gives (Requeue 2 0 (record { 0 = 3 })) 0 1 0 0 1
-    ∷ gives (Requeue 2 0 (record { 0 = 2 })) 0 1 0 0 1
+    (gives (Requeue 0 0 (record { 0 = 1 })) 0 2 0 0 0 0
+    ∷ gives (Requeue 0 1 (record { 0 = 2 })) 0 3 0 0 0 0
+    ∷ gives (Requeue 1 1 (record { 0 = 2 })) 0 3 0 0 0 0
+    ∷ gives (Requeue 1 2 (record { 0 = 2 })) 0 3 0 0 0 0
+    ∷ gives (Requeue 0 2 (record { 0 = 3 })) 0 1 0 0 0 0
+    ∷ gives (Requeue 2 0 (record { 0 = 3 })) 0 1 0 0 1 0
+    ∷ gives (Requeue 2 0 (record { 0 = 2 })) 0 1 0 0 1 0
     ∷ [])
     ((ready, 1 ∷ 3 ∷ 2 ∷ []) ∷ (park 1, []) ∷ (park 2, []) ∷ [])
     ((running, 1) ∷ [])
@@ -230,10 +230,10 @@ requeues M = play M (sized 3 0 0 2) (4 ∷ 4 ∷ 4 ∷ [])
 -- SetPriority to the same value moves behind the equals; a newcomer goes before lower ones
 abbrev setPriority : Machine → Row
 setPriority M = play M (sized 3 0 0 0) (4 ∷ 4 ∷ 4 ∷ [])
-    (gives (SetPriority (record { 0 = 4 })) 0 2 0 0 0
-    ∷ gives (SetPriority (record { 0 = 5 })) 0 2 0 0 0
-    ∷ gives (SetPriority (record { 0 = 4 })) 0 3 0 0 0
-    ∷ gives (SetPriority (record { 0 = 0 })) 0 1 0 0 0
+    (gives (SetPriority (record { 0 = 4 })) 0 2 0 0 0 0
+    ∷ gives (SetPriority (record { 0 = 5 })) 0 2 0 0 0 0
+    ∷ gives (SetPriority (record { 0 = 4 })) 0 3 0 0 0 0
+    ∷ gives (SetPriority (record { 0 = 0 })) 0 1 0 0 0 0
     ∷ [])
     ((ready, 1 ∷ 2 ∷ 3 ∷ []) ∷ [])
     ((running, 1) ∷ (priority 1, 4) ∷ (priority 2, 4) ∷ (priority 3, 0) ∷ [])
@@ -241,10 +241,10 @@ setPriority M = play M (sized 3 0 0 0) (4 ∷ 4 ∷ 4 ∷ [])
 -- a newcomer goes behind its equals and before those of lower priority
 abbrev newcomer : Machine → Row
 newcomer M = play M (sized 4 0 0 1) (5 ∷ 3 ∷ 1 ∷ 3 ∷ [])
-    (gives (Requeue 0 1 (record { 0 = 2 })) 0 1 0 0 0
-    ∷ gives (Requeue 1 0 (record { 0 = 2 })) 0 1 0 0 1
-    ∷ gives (Requeue 0 1 (record { 0 = 1 })) 0 4 0 0 0
-    ∷ gives (Requeue 1 0 (record { 0 = 1 })) 0 1 0 0 1
+    (gives (Requeue 0 1 (record { 0 = 2 })) 0 1 0 0 0 0
+    ∷ gives (Requeue 1 0 (record { 0 = 2 })) 0 1 0 0 1 0
+    ∷ gives (Requeue 0 1 (record { 0 = 1 })) 0 4 0 0 0 0
+    ∷ gives (Requeue 1 0 (record { 0 = 1 })) 0 1 0 0 1 0
     ∷ [])
     ((ready, 1 ∷ 4 ∷ 2 ∷ 3 ∷ []) ∷ [])
     ((running, 1) ∷ [])
@@ -252,14 +252,46 @@ newcomer M = play M (sized 4 0 0 1) (5 ∷ 3 ∷ 1 ∷ 3 ∷ [])
 -- the clock goes round: at 0 nobody wakes, whose timer is 0 or not; clock 65535 and 1 tick ring at 1
 abbrev roundClock : Machine → Row
 roundClock M = playFrom M (sized 3 1 1 0) (late M)
-    (gives (Wait 1 1 (record { 0 = 1 })) 0 2 0 1 0
-    ∷ gives (Enter 1) 0 2 0 1 0
-    ∷ gives (Wait 1 1 (record { 0 = 0 })) 0 3 0 1 0
-    ∷ gives Tick 0 3 0 0 0
-    ∷ gives Tick 0 3 0 0 1
+    (gives (Wait 1 1 (record { 0 = 1 })) 0 2 0 1 0 0
+    ∷ gives (Enter 1) 0 2 0 1 0 0
+    ∷ gives (Wait 1 1 (record { 0 = 0 })) 0 3 0 1 0 1
+    ∷ gives Tick 0 3 0 0 0 0
+    ∷ gives Tick 0 3 0 0 1 0
     ∷ [])
     ((ready, 3 ∷ 1 ∷ []) ∷ (condition 1, 2 ∷ []) ∷ [])
     ((clock, 1) ∷ (running, 3) ∷ (timer 1, 0) ∷ (timer 2, 0) ∷ [])
+
+-- how many stand before a newcomer: its equals and those above it, at a lock and at a condition; not those behind it, and nobody where it joins ready
+abbrev howMany : Machine → Row
+howMany M = play M (sized 5 1 1 1) (3 ∷ 1 ∷ 3 ∷ 5 ∷ 2 ∷ [])
+    (gives (Enter 1) 0 4 0 1 0 0
+    ∷ gives (Requeue 0 1 (record { 0 = 4 })) 0 1 0 0 0 0
+    ∷ gives (Requeue 0 1 (record { 0 = 1 })) 0 3 0 0 0 0
+    ∷ gives (Requeue 0 1 (record { 0 = 3 })) 0 5 0 0 0 0
+    ∷ gives (Requeue 0 1 (record { 0 = 5 })) 0 2 0 0 0 0
+    ∷ gives (Enter 1) 0 0 0 0 0 0
+    ∷ gives (Requeue 1 0 (record { 0 = 1 })) 0 1 0 0 1 0
+    ∷ gives (Enter 1) 0 0 0 0 0 0
+    ∷ gives (Requeue 1 0 (record { 0 = 5 })) 0 5 0 0 1 0
+    ∷ gives (Enter 1) 0 0 0 0 0 1
+    ∷ gives (Requeue 1 0 (record { 0 = 3 })) 0 3 0 0 1 0
+    ∷ gives (Enter 1) 0 0 0 0 0 1
+    ∷ gives (Requeue 1 0 (record { 0 = 4 })) 0 4 0 0 1 0
+    ∷ gives (Wait 1 1 (record { 0 = 0 })) 0 1 1 1 1 0
+    ∷ gives (Enter 1) 0 1 0 1 0 0
+    ∷ gives (Wait 1 1 (record { 0 = 0 })) 0 3 1 1 1 1
+    ∷ gives (Enter 1) 0 3 0 1 0 0
+    ∷ gives (Wait 1 1 (record { 0 = 0 })) 0 5 1 1 1 2
+    ∷ gives (SetPriority (record { 0 = 4 })) 0 5 0 0 0 0
+    ∷ gives (Enter 1) 0 5 0 1 0 0
+    ∷ gives (Wait 1 1 (record { 0 = 0 })) 0 2 1 1 1 1
+    ∷ gives (SetPriority (record { 0 = 3 })) 0 2 0 0 0 0
+    ∷ gives (Enter 1) 0 2 0 1 0 0
+    ∷ gives (Wait 1 1 (record { 0 = 0 })) 0 0 0 1 0 4
+    ∷ gives (Naked 1) 0 4 0 0 1 0
+    ∷ [])
+    ((ready, 4 ∷ []) ∷ (lock 1, []) ∷ (condition 1, 5 ∷ 1 ∷ 3 ∷ 2 ∷ []) ∷ [])
+    ((running, 4) ∷ (holder 1, 0) ∷ [])
 
 -- Start's codes at the edges of each count, and with two faults at once: 2 before 3 before 4
 abbrev starting : Row
@@ -291,6 +323,7 @@ scripts M =
     ∷ setPriority M
     ∷ newcomer M
     ∷ roundClock M
+    ∷ howMany M
     ∷ []
 
 -- the scripts and Start's codes hold of both machines

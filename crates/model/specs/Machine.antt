@@ -2,11 +2,12 @@
 use Prim.Native.Nat.{ℕ, _+_}
 use mathlib.Core.Bool.{Bool, not, _&&_}
 use mathlib.Core.List.{List, [], _∷_}
+use lib.ListN.{length}
 use Rattle.model.specs.declared.Shape.{Shape}
 use Rattle.model.specs.declared.Call.{Call}
 use Rattle.model.specs.declared.Answer.{Answer}
-use Rattle.model.specs.Queue.{Queue, Note, bit, same, anyOf, member, first, move, toReady, upTo}
-use Rattle.model.specs.Queue.Queue.{ready, condition}
+use Rattle.model.specs.Queue.{Queue, Note, bit, same, anyOf, member, first, aheadOf, move, toReady, upTo}
+use Rattle.model.specs.Queue.Queue.{ready, park, lock, condition}
 use Rattle.model.specs.Field.{Fields, put, some, priorities}
 use Rattle.model.specs.Field.Field.{running, failed, holder}
 use Rattle.model.specs.Rules.{Effect, decide, fresh}
@@ -33,11 +34,11 @@ moves M pr q (m ∷ ms) = moves M pr (M .moved pr q m) ms
 
 -- an answer's fields in their order
 abbrev pub fieldsOf : Answer → List ℕ
-fieldsOf a = a .code ∷ a .running ∷ a .retry ∷ a .mark ∷ a .moved ∷ []
+fieldsOf a = a .code ∷ a .running ∷ a .retry ∷ a .mark ∷ a .moved ∷ a .ahead ∷ []
 
 -- a code, and zeros beside it
 abbrev pub refusal : ℕ → Answer
-refusal k = record { code = k; running = 0; retry = 0; mark = 0; moved = 0 }
+refusal k = record { code = k; running = 0; retry = 0; mark = 0; moved = 0; ahead = 0 }
 
 -- dispatch, over the ready queue: its first runs, and is no longer failed
 abbrev pub dispatch : List ℕ → Fields → Fields
@@ -54,18 +55,27 @@ abbrev pub arrivals : List ℕ → List Note → ℕ
 arrivals inReady [] = 0
 arrivals inReady (m ∷ ms) = bit (same (m .1) ready && not (member (m .0) inReady)) + arrivals inReady ms
 
+-- how many stand before the newcomer, where one comes to a lock or a condition; by the queues after the moves
+abbrev pub ahead : (Queue → List ℕ) → List Note → ℕ
+ahead qs [] = 0
+ahead qs ((p, ready) ∷ ms) = ahead qs ms
+ahead qs ((p, park k) ∷ ms) = ahead qs ms
+ahead qs ((p, lock l) ∷ ms) = length (aheadOf p (qs (lock l)))
+ahead qs ((p, condition c) ∷ ms) = length (aheadOf p (qs (condition c)))
+
 -- dispatch, and the answer of an accepted call
-abbrev pub finish : (M : Machine) → Fields → M .Queues → ℕ → ℕ → State M × Answer
-finish M s q k came =
+abbrev pub finish : (M : Machine) → Fields → M .Queues → ℕ → ℕ → ℕ → State M × Answer
+finish M s q k came others =
     let inReady = M .read (priorities s) q ready in
-    (record { fields = dispatch inReady s; queues = q }, record { code = 0; running = first inReady; retry = retry inReady s; mark = k; moved = came })
+    (record { fields = dispatch inReady s; queues = q }, record { code = 0; running = first inReady; retry = retry inReady s; mark = k; moved = came; ahead = others })
 
 -- ---- a call, a list of calls, Start
 
 abbrev pub obey : (M : Machine) → State M → Effect → State M × Answer
 obey M s (refuse k) = (s, refusal k)
 obey M s (accept f ms k) =
-    finish M f (moves M (priorities f) (s .queues) ms) k (arrivals (M .read (priorities (s .fields)) (s .queues) ready) ms)
+    let q = moves M (priorities f) (s .queues) ms in
+    finish M f q k (arrivals (M .read (priorities (s .fields)) (s .queues) ready) ms) (ahead (M .read (priorities f) q) ms)
 
 unfoldable pub step : (M : Machine) → Shape → State M → Call → State M × Answer
 step M n s c = obey M s (decide n (s .fields) (M .read (priorities (s .fields)) (s .queues)) c)
@@ -80,7 +90,7 @@ answers M n s (c ∷ cs) = (step M n s c) .1 ∷ answers M n ((step M n s c) .0)
 
 -- an accepted Start: every process comes into ready, 1 first, and none from another queue
 abbrev pub start : (M : Machine) → Shape → List ℕ → State M × Answer
-start M n bytes = finish M (fresh bytes) (moves M (priorities (fresh bytes)) (M .none) (toReady (upTo (n .processes)))) 0 0
+start M n bytes = finish M (fresh bytes) (moves M (priorities (fresh bytes)) (M .none) (toReady (upTo (n .processes)))) 0 0 0
 
 -- ---- what a state says besides
 

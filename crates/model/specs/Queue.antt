@@ -98,6 +98,15 @@ abbrev pub firstOnly : List ℕ → List ℕ
 firstOnly [] = []
 firstOnly (x ∷ xs) = x ∷ []
 
+-- those ahead of the first that fails a test
+abbrev pub takeWhile : (ℕ → Bool) → List ℕ → List ℕ
+takeWhile t [] = []
+takeWhile t (x ∷ xs) = cond (t x) (x ∷ takeWhile t xs) []
+
+-- those ahead of p
+abbrev pub aheadOf : ℕ → List ℕ → List ℕ
+aheadOf p xs = takeWhile (λ x. not (eqb x p)) xs
+
 -- those that pass a test
 abbrev pub filter : (ℕ → Bool) → List ℕ → List ℕ
 filter t [] = []

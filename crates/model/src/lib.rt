@@ -57,4 +57,5 @@ pub struct Answer {
     pub code: u16,
     pub mark: u16,
     pub moved: u16,
+    pub ahead: u16,
 }

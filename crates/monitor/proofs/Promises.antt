@@ -160,10 +160,10 @@ fit? w [] = yes tt
 fit? w (x ∷ xs) = Dec·and (decLt x (2 ^ w)) (fit? w xs)
 
 small-fits : (n : Shape) (a : Answer) → counted n ≡ true → Small n a → Fit 10 (fieldsOf a)
-small-fits n a k s = let h = counts-in n k in (omega arith, (omega arith, (omega arith, (omega arith, (omega arith, tt)))))
+small-fits n a k s = let h = counts-in n k in (omega arith, (omega arith, (omega arith, (omega arith, (omega arith, (omega arith, tt))))))
 
 refusal-fits : (k : ℕ) → k < 1024 → Fit 10 (fieldsOf (refusal k))
-refusal-fits k h = (h, (omega arith, (omega arith, (omega arith, (omega arith, tt)))))
+refusal-fits k h = (h, (omega arith, (omega arith, (omega arith, (omega arith, (omega arith, tt))))))
 
 pub performs-fits : {c : Call} {old new : List ℕ} {a : Answer} → Performs c old new a → Fit 10 (fieldsOf a)
 performs-fits {c} {old} {a = a} P =

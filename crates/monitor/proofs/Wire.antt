@@ -40,7 +40,7 @@ carries w xs e h = record { number = e; back = ap (unpacked w (length xs)) e ∙
 -- ---- an answer is made of its fields again, the first of a list
 
 abbrev pub answerFrom : List ℕ → Answer
-answerFrom l = record { code = getD l 0 0; running = getD l 1 0; retry = getD l 2 0; mark = getD l 3 0; moved = getD l 4 0 }
+answerFrom l = record { code = getD l 0 0; running = getD l 1 0; retry = getD l 2 0; mark = getD l 3 0; moved = getD l 4 0; ahead = getD l 5 0 }
 
 abbrev pub listedFrom : List ℕ → Listed
 listedFrom l = record { code = getD l 0 0; count = getD l 1 0 }

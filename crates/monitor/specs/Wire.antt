@@ -43,9 +43,9 @@ nearestFields a = a .code ∷ a .process ∷ a .left ∷ []
 
 -- ---- what is read back
 
--- an answer: code in bits 0 to 9, running in 10 to 19, retry in 20 to 29, mark in 30 to 39, moved in 40 to 49
+-- an answer: code in bits 0 to 9, running in 10 to 19, retry in 20 to 29, mark in 30 to 39, moved in 40 to 49, ahead in 50 to 59
 abbrev pub answerOf : ℕ → Answer
-answerOf r = record { code = r % 2 ^ 10; running = r / 2 ^ 10 % 2 ^ 10; retry = r / 2 ^ 20 % 2 ^ 10; mark = r / 2 ^ 30 % 2 ^ 10; moved = r / 2 ^ 40 % 2 ^ 10 }
+answerOf r = record { code = r % 2 ^ 10; running = r / 2 ^ 10 % 2 ^ 10; retry = r / 2 ^ 20 % 2 ^ 10; mark = r / 2 ^ 30 % 2 ^ 10; moved = r / 2 ^ 40 % 2 ^ 10; ahead = r / 2 ^ 50 % 2 ^ 10 }
 
 -- List's: code in bits 0 to 9, count in 10 to 19
 abbrev pub listedOf : ℕ → Listed

@@ -186,7 +186,7 @@ const TWENTY: u64 = 1048576;
 
 // A field, in bits that hold so many numbers, and the others above them.
 fn above(room: u64, low: u32, high: u64) -> u64
-    requires { ⌜ (0 < room) × (room ≤ 2 ^ 20) × (high < 2 ^ 43) ⌝ }
+    requires { ⌜ (0 < room) × (room ≤ 2 ^ 20) × (room * high < 2 ^ 60) ⌝ }
     ensures { λ r. ⌜ r ≡ low % room + room * high ⌝ }
 {
     low as u64 % room + room * high
@@ -205,7 +205,11 @@ pub fn pack(a: Answer) -> u64
             above(
                 TEN,
                 a.retry as u32,
-                above(TEN, a.mark as u32, above(TEN, a.moved as u32, 0)),
+                above(
+                    TEN,
+                    a.mark as u32,
+                    above(TEN, a.moved as u32, above(TEN, a.ahead as u32, 0)),
+                ),
             ),
         ),
     )

@@ -4,18 +4,18 @@
 use Prim.Native.Nat.{ℕ, _<_}
 use native.Mathlib.Omega.{arith}
 use mathlib.Core.Path.{_≡_, refl, sym, ap, _∙_, subst, fun-ext}
-use mathlib.Core.Bool.{true, false}
+use mathlib.Core.Bool.{true, false, not}
 use mathlib.Core.Logic.{_≢_}
 use mathlib.Core.List.{List, [], _∷_}
 use Rattle.model.specs.declared.Shape.{Shape}
 use Rattle.model.specs.Queue.{Queue, inside, exists, bit, member, count, remove, insert, move, Falling, isCondition}
-use Rattle.model.specs.Field.{Field, Fields, put, priorities}
+use Rattle.model.specs.Field.{Field, Fields, put, some, priorities}
 use Rattle.model.specs.Queue.Queue.{ready}
 use Rattle.model.specs.Field.Field.{priority}
 use Rattle.model.specs.Machine.{State, model}
 use Rattle.model.specs.Valid.{room, Placed}
-use Rattle.model.proofs.Tests.{holds, fails, SameCase, same-case, EqCase, eqb-case, PutCase, put-case, put-away, bit-small, denied}
-use Rattle.model.proofs.Lists.{SameOff, falling-remove, falling-insert, remove-absent, remove-member, insert-member, absent-count, count-remove-same, member-bit}
+use Rattle.model.proofs.Tests.{holds, fails, SameCase, same-case, same-yes, EqCase, eqb-case, eqb-yes, eqb-no, PutCase, put-case, put-away, bit-small, denied}
+use Rattle.model.proofs.Lists.{SameOff, falling-remove, falling-insert, remove-absent, remove-member, insert-member, absent-count, counted-member, count-insert, count-remove-same, member-bit}
 use Rattle.model.proofs.Places as places
 use Rattle.model.proofs.Places.{stands-move, falling-moves}
 use Rattle.model.proofs.Simulation.{lead}
@@ -25,9 +25,12 @@ use Rattle.area.specs.Layout.Slot.{Tail}
 use Rattle.area.specs.State.{laid}
 use Rattle.area.specs.Holds.{Holds, Becomes, Moves, with, sent}
 use Rattle.area.specs.Rings.{swap, ranks, Relinked, Leaves, Joins}
+use Rattle.ring.specs.Ring.{Arrived}
 use Rattle.area.specs.Loose.{Loose}
 use Rattle.area.proofs.Stores.{alter-here, alter-own}
 use Rattle.area.proofs.Rings.{one-queue}
+use Rattle.area.proofs.Records.{queue-ring}
+use Rattle.ring.proofs.Rings.{ring-member}
 use Rattle.moves.proofs.Loose.{loose-of, loose-relinked, loose-put, settled}
 use Rattle.moves.proofs.Shared.{put-own, going}
 
@@ -45,6 +48,23 @@ module _ {n : Shape} {ws : List ℕ} {at-from at-to p waits : ℕ} (m : Moves n 
     here = m .here-from;
     stood = m .stood;
     stands = m .stands;
+  }
+
+  -- where the first queue's tail stands, in other words
+  abbrev pub move-from : {i : ℕ} → i ≡ at-from → Moves n ws i at-to p waits
+  move-from e = record {
+    state = m .state;
+    from = m .from;
+    to = m .to;
+    holds = m .holds;
+    given-from = m .given-from;
+    given-to = m .given-to;
+    here-from = e ∙ m .here-from;
+    here-to = m .here-to;
+    process = m .process;
+    stood = m .stood;
+    stands = m .stands;
+    waits-there = m .waits-there;
   }
 
 -- ---- p leaves
@@ -122,6 +142,9 @@ module _ {n : Shape} {ws : List ℕ} {at-from at-to p waits : ℕ} (m : Moves n 
           go (holds e z) = rw z (ap (insert (priorities (s′ .fields)) p) (without-is (m .to) ∙ ap {A = Queue} (λ o. remove p (s .queues o)) e))
           go (fails e z) = rw z (without-is q)
 
+      pub arrived : {t k : ℕ} → Arrived p (insert (ranks (loose₂ .parts)) p (without (m .to))) t k → Arrived p (s′ .queues (m .to)) t k
+      arrived {t} {k} A = subst (λ (ys : List ℕ). Arrived p ys t k) (rw (ranks-are, without-is (m .to), same-yes (m .to) (m .to) refl)) A
+
       placed′ : Placed n s′
       placed′ = record {
         counts = m .holds .placed .counts;
@@ -169,6 +192,22 @@ module _ {n : Shape} {ws : List ℕ} {at-from at-to p waits : ℕ} (m : Moves n 
   pub sent-own : {new : List ℕ} → Becomes n ws new (sent p (m .to) (with (priority p) own-rank (m .state))) → Becomes n ws new (sent p (m .to) (m .state))
   sent-own {new} b =
       subst (λ (f : Fields). Becomes n ws new (record { fields = f; queues = move (priorities f) (m .state .queues) p (m .to) })) (put-own (priority p) (m .state .fields)) b
+
+  pub arrived-own : {t k : ℕ} → Arrived p (sent p (m .to) (with (priority p) own-rank (m .state)) .queues (m .to)) t k → Arrived p (sent p (m .to) (m .state) .queues (m .to)) t k
+  arrived-own {t} {k} A =
+      subst (λ (f : Fields). Arrived p (move (priorities f) (m .state .queues) p (m .to) (m .to)) t k) (put-own (priority p) (m .state .fields)) A
+
+  -- the tail is some process: p stands there
+  pub arrived-some : {new : List ℕ} {t k : ℕ} → Becomes n ws new (sent p (m .to) (m .state)) → Arrived p (sent p (m .to) (m .state) .queues (m .to)) t k → some t ≡ true
+  arrived-some {t = t} b A = ap not (eqb-no t 0 (λ z. ring-member p (sent p (m .to) (m .state) .queues (m .to)) (queue-ring (b .holds) (m .to) (m .given-to)) there (A .ends ∙ z)))
+    where
+      rest : List ℕ
+      rest = remove p (m .state .queues (m .to))
+
+      there : member p (sent p (m .to) (m .state) .queues (m .to)) ≡ true
+      there =
+          rw (same-yes (m .to) (m .to) refl)
+          (counted-member p (insert (priorities (m .state .fields)) p rest) (rw (count-insert (priorities (m .state .fields)) p p rest, eqb-yes p p refl) (omega arith)))
 
 -- ---- in ready, with another
 

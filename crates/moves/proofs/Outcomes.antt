@@ -10,13 +10,14 @@ use lib.Dec.{eqb}
 use Rattle.model.specs.declared.Shape.{Shape}
 use Rattle.model.specs.declared.Call.{Call}
 use Rattle.model.specs.declared.Answer.{Answer}
-use Rattle.model.specs.Queue.{Note, outside, inside}
+use Rattle.model.specs.Queue.{Note, outside, inside, toReady}
 use Rattle.model.specs.Queue.Queue.{ready}
 use Rattle.model.specs.Field.{Fields, priorities}
 use Rattle.model.specs.Rules.{Effect, when, choose, decide}
 use Rattle.model.specs.Rules.Effect.{refuse, accept}
-use Rattle.model.specs.Machine.{State, model, moves, arrivals, finish, step, refusal}
+use Rattle.model.specs.Machine.{State, model, moves, arrivals, ahead, finish, step, refusal}
 use Rattle.model.proofs.Tests.{eqb-yes, eqb-no, not-true, or-split}
+use Rattle.model.proofs.Places.{ahead-ready}
 use Rattle.area.specs.Holds.{Holds, Becomes, Gives}
 use Rattle.area.proofs.Puts.{becomes-none, becomes-then}
 use Rattle.area.specs.Calls.{Does, Missing, Calling, CallingTwo, changed}
@@ -123,8 +124,14 @@ module _ {n : Shape} {old : List ℕ} {s : State model} (H : Holds n old s) (c :
   refuses-by {k = k} e d T z = refuses k (d ∙ T .refused z e)
 
   -- the rule accepts: its fields and moves are made, and then dispatch
-  pub accepts : {mid new : List ℕ} {a : Answer} (f : Fields) (ms : List Note) (k came : ℕ) → decide n (s .fields) (s .queues) c ≡ accept f ms k
-      → came ≡ arrivals (s .queues ready) ms → Becomes n old mid (changed f ms s)
-      → Gives n mid new a (finish model f (moves model (priorities f) (s .queues) ms) k came) → Does c n old new s a
+  pub accepts : {mid new : List ℕ} {a : Answer} (f : Fields) (ms : List Note) (k came others : ℕ) → decide n (s .fields) (s .queues) c ≡ accept f ms k
+      → came ≡ arrivals (s .queues ready) ms → others ≡ ahead (changed f ms s .queues) ms → Becomes n old mid (changed f ms s)
+      → Gives n mid new a (finish model f (moves model (priorities f) (s .queues) ms) k came others) → Does c n old new s a
   unfolding step
-  accepts f ms k came d e b g = rw (d, ← e) record { answer = g .answer; becomes = becomes-then b (g .becomes) }
+  accepts f ms k came others d e h b g = rw (d, ← e, ← h) record { answer = g .answer; becomes = becomes-then b (g .becomes) }
+
+  -- so it does where all moves are to ready: then nobody is told how many are ahead
+  pub accepts-ready : {mid new : List ℕ} {a : Answer} (f : Fields) (xs : List ℕ) (k came : ℕ) → decide n (s .fields) (s .queues) c ≡ accept f (toReady xs) k
+      → came ≡ arrivals (s .queues ready) (toReady xs) → Becomes n old mid (changed f (toReady xs) s)
+      → Gives n mid new a (finish model f (moves model (priorities f) (s .queues) (toReady xs)) k came 0) → Does c n old new s a
+  accepts-ready f xs k came d e = accepts f (toReady xs) k came 0 d e (sym (ahead-ready (changed f (toReady xs) s .queues) xs))

@@ -17,7 +17,7 @@ use Rattle.model.proofs.Tests.{holds, fails, SameCase, same-case, EqCase, eqb-c
 use Rattle.model.proofs.Lists.{remove-member, insert-member}
 use Rattle.ring.specs.Link as link
 use Rattle.ring.specs.Link.{relink, Stands}
-use Rattle.ring.specs.Ring.{Ring, Kept, Left, Joined}
+use Rattle.ring.specs.Ring.{Ring, Kept, Left, Joined, Arrived}
 use Rattle.ring.proofs.Links.{relink-same}
 use Rattle.ring.proofs.Frame.{left-kept, left-ring, joined-kept, joined-ring}
 use Rattle.ring.proofs.Rings.{ring-tail-small}
@@ -255,6 +255,14 @@ module _ {n : Shape} {ws : List ℕ} {i p : ℕ} (j : Joins n ws i p) where
 pub lent-join : {n : Shape} {ws : List ℕ} {i p : ℕ} (j : Joins n ws i p) {a w : ℕ} → a ≡ recordsAt n → w ≡ getD ws i 0 / 8 % 1024
     → Stands (midOf a (length ws - a) ws) p × Ring (midOf a (length ws - a) ws) w (j .queues (j .queue)) × Falling (link.priority (midOf a (length ws - a) ws)) (j .queues (j .queue))
 lent-join {n} {ws} j {a} {w} e reads = rw (lent n ws e) (joins-stands j, joins-ring j w (tail-read (j .queue) (j .rings) (j .given) (j .here) reads), joins-falls j)
+
+-- the ring as the records order it is the ring as the parts do, so what is told of a newcomer there is told here
+pub back-arrived : {n : Shape} {ws : List ℕ} {i p : ℕ} (j : Joins n ws i p) {a : ℕ} → a ≡ recordsAt n → (u k : ℕ)
+    → Arrived p (insert (link.priority (midOf a (length ws - a) ws)) p (j .queues (j .queue))) u k → Arrived p (insert (ranks (j .parts)) p (j .queues (j .queue))) u k
+back-arrived {n} {ws} {p = p} j {a} e u k A =
+    subst (λ (ys : List ℕ). Arrived p ys u k)
+    (ap {A = List ℕ} (λ z. insert (link.priority z) p (j .queues (j .queue))) (lent n ws e)
+    ∙ insert-agree (ranks (j .parts)) (link.priority (records n ws)) p (j .queues (j .queue)) (joins-ranks j p (j .process)) (stood-ranks j)) A
 
 pub back-join : {n : Shape} {ws : List ℕ} {i p : ℕ} (j : Joins n ws i p) {a w : ℕ} (at-records : a ≡ recordsAt n) (reads : w ≡ getD ws i 0 / 8 % 1024) (r : List ℕ) (u v : ℕ)
     → Joined (midOf a (length ws - a) ws) r w p u (j .queues (j .queue)) → v ≡ relink (getD ws i 0) u

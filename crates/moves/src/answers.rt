@@ -17,13 +17,14 @@ pub fn refusal(code: u16) -> Answer
         retry: 0,
         mark: 0,
         moved: 0,
+        ahead: 0,
     }
 }
 
 // Dispatch, and the answer of an accepted call.
-pub fn finish(area: &mut [u16], shape: Shape, mark: u16, moved: u16) -> Answer
+pub fn finish(area: &mut [u16], shape: Shape, mark: u16, moved: u16, ahead: u16) -> Answer
     requires { ⌜ Held shape (now area) ⌝ }
-    ensures { λ r. ⌜ ((s : State model) → Holds shape (now (area .entry)) s → Gives shape (now (area .entry)) (now (area .exit)) r (machine.finish model (s .fields) (s .queues) mark moved)) ⌝ }
+    ensures { λ r. ⌜ ((s : State model) → Holds shape (now (area .entry)) s → Gives shape (now (area .entry)) (now (area .exit)) r (machine.finish model (s .fields) (s .queues) mark moved ahead)) ⌝ }
 {
     let d = dispatch(area, shape);
     Answer {
@@ -32,5 +33,6 @@ pub fn finish(area: &mut [u16], shape: Shape, mark: u16, moved: u16) -> Answer
         retry: d.retry,
         mark: mark,
         moved: moved,
+        ahead: ahead,
     }
 }

@@ -1,16 +1,19 @@
 // The queues of an area, as rings in its records: reads of one, the move of a process from one to another, and dispatch. `answers` ends a call with its answer, and `codes` has the tests that calls share. Assumes nothing.
 use area::places;
 use model::Shape;
+use ring::Arrival;
 ghost use mathlib.Core.Path.{_≡_};
 ghost use mathlib.Core.Bool.{true};
 ghost use mathlib.Core.List.{_++_};
 ghost use Prim.Native.Nat.{_<_, _≤_};
 ghost use lib.ListN.{length, drop};
 ghost use Rattle.model.specs.declared.Shape.{Shape};
-ghost use Rattle.model.specs.Queue.{Queue, exists, member, remove, insert, first};
+ghost use Rattle.model.specs.Queue.{Queue, exists, member, aheadOf, remove, insert, first};
 ghost use Rattle.model.specs.Queue.Queue.{ready};
+ghost use Rattle.model.specs.Field.{some};
 ghost use Rattle.model.specs.Field.Field.{priority};
 ghost use Rattle.model.specs.Machine.{State, model, retry};
+ghost use Rattle.ring.specs.Ring.{Arrived};
 ghost use Rattle.area.specs.Layout.{at, recordsAt};
 ghost use Rattle.area.specs.Layout.Slot.{Tail};
 ghost use Rattle.area.specs.Holds.{Holds, Held, Becomes, Tried, Moves, with, sent, dispatched};
@@ -76,26 +79,50 @@ fn take_out(area: &mut [u16], base: usize, i: usize, p: u16) -> bool
 }
 
 // p, which stands in no ring, joins the one whose tail stands at i.
-fn put_in(area: &mut [u16], base: usize, i: usize, p: u16)
+fn put_in(area: &mut [u16], base: usize, i: usize, p: u16) -> Arrival
     requires { ⌜ ((n : Shape) × (base ≡ recordsAt n) × Joins n (now area) i p) ⌝ }
-    ensures { λ _. ⌜ ((n : Shape) → base ≡ recordsAt n → (j : Joins n (now (area .entry)) i p) → Relinked n (now (area .entry)) (now (area .exit)) (j .parts) (j .queues) (j .queue) (insert (ranks (j .parts)) p (j .queues (j .queue)))) ⌝ }
+    ensures { λ r. ⌜ ((n : Shape) → base ≡ recordsAt n → (j : Joins n (now (area .entry)) i p) → Arrived p (insert (ranks (j .parts)) p (j .queues (j .queue))) (r .tail) (r .ahead) × Relinked n (now (area .entry)) (now (area .exit)) (j .parts) (j .queues) (j .queue) (insert (ranks (j .parts)) p (j .queues (j .queue)))) ⌝ }
 {
     let word = area[i];
-    let tail = ring::join(&mut area[base..], ring::next_field(word), p);
-    area[i] = ring::with_next(word, tail);
+    let arrival = ring::join(&mut area[base..], ring::next_field(word), p);
+    area[i] = ring::with_next(word, arrival.tail);
+    arrival
 }
 
-// p moves from the queue whose tail stands at `from`, if it stands there, to the one whose tail stands at `to`; waits is 1 if that is a condition. Whether it does.
+// p moves from the queue whose tail stands at `from`, if it stands there, to the one whose tail stands at `to`; waits is 1 if that is a condition. Tail 0 says that it does not stand there.
+fn transfer(area: &mut [u16], base: usize, from: usize, to: usize, p: u16, waits: u16) -> Arrival
+    requires { ⌜ ((n : Shape) × (base ≡ recordsAt n) × Moves n (now area) from to p waits) ⌝ }
+    ensures { λ r. ⌜ ((n : Shape) → base ≡ recordsAt n → (m : Moves n (now (area .entry)) from to p waits) → Tried (m .stood) (some (r .tail)) (now (area .entry)) (now (area .exit)) (Arrived p (sent p (m .to) (m .state) .queues (m .to)) (r .tail) (r .ahead) × Becomes n (now (area .entry)) (now (area .exit)) (sent p (m .to) (m .state)))) ⌝ }
+{
+    if !take_out(area, base, from, p) {
+        return Arrival { tail: 0, ahead: 0 };
+    }
+    area::set_waiting(&mut area[base..], p, waits);
+    put_in(area, base, to, p)
+}
+
+// The same move, where nobody asks how many are ahead. Whether p stands where it is to leave.
 pub fn send(area: &mut [u16], base: usize, from: usize, to: usize, p: u16, waits: u16) -> bool
     requires { ⌜ ((n : Shape) × (base ≡ recordsAt n) × Moves n (now area) from to p waits) ⌝ }
     ensures { λ r. ⌜ ((n : Shape) → base ≡ recordsAt n → (m : Moves n (now (area .entry)) from to p waits) → Tried (m .stood) r (now (area .entry)) (now (area .exit)) (Becomes n (now (area .entry)) (now (area .exit)) (sent p (m .to) (m .state)))) ⌝ }
 {
-    if !take_out(area, base, from, p) {
-        return false;
+    let arrival = transfer(area, base, from, to, p, waits);
+    arrival.tail != 0
+}
+
+// p, which stands in ready, moves to the lock or the condition whose tail stands at `to`; waits is 1 if that is a condition. How many are ahead of it there, counted on the one walk: to its place or, where it is the last, along the queue.
+pub fn queue(area: &mut [u16], shape: Shape, to: usize, p: u16, waits: u16) -> u16
+    requires { ⌜ ((m : Moves shape (now area) (at shape (Tail ready)) to p waits) × (m .stood ≡ true)) ⌝ }
+    ensures { λ r. ⌜ ((m : Moves shape (now (area .entry)) (at shape (Tail ready)) to p waits) → m .stood ≡ true → (r ≡ length (aheadOf p (sent p (m .to) (m .state) .queues (m .to)))) × Becomes shape (now (area .entry)) (now (area .exit)) (sent p (m .to) (m .state))) ⌝ }
+{
+    let from = area::ready_at();
+    let base = area::records_at(shape);
+    let arrival = transfer(area, base, from, to, p, waits);
+    if arrival.tail == p {
+        let all = count_in(area, shape, to);
+        return all - 1;
     }
-    area::set_waiting(&mut area[base..], p, waits);
-    put_in(area, base, to, p);
-    true
+    arrival.ahead
 }
 
 // p, which stands in ready, takes the priority v, and its place in ready by it.

@@ -52,7 +52,7 @@ field-put old mid at k n b q h e =
     rw (add-one, take-suc-set mid (at + k) b h, e)
     (append-assoc (take at old) (digits k n) (b ∷ []) ∙ ap (λ (x : ℕ). take at old ++ (digits x n ++ (b ∷ []))) q)
 
--- five rows, each behind the one before
-pub five : (p0 p1 p2 p3 p4 p5 f1 f2 f3 f4 f5 : List ℕ) → p0 ≡ [] → p1 ≡ p0 ++ f1 → p2 ≡ p1 ++ f2 → p3 ≡ p2 ++ f3 → p4 ≡ p3 ++ f4 → p5 ≡ p4 ++ f5 →
-    p5 ≡ f1 ++ (f2 ++ (f3 ++ (f4 ++ f5)))
-five p0 p1 p2 p3 p4 p5 f1 f2 f3 f4 f5 e0 e1 e2 e3 e4 e5 = rw (e5, e4, e3, e2, e1, e0) (simp append-assoc)
+-- six rows, each behind the one before
+pub six : (p0 p1 p2 p3 p4 p5 p6 f1 f2 f3 f4 f5 f6 : List ℕ) → p0 ≡ [] → p1 ≡ p0 ++ f1 → p2 ≡ p1 ++ f2 → p3 ≡ p2 ++ f3 → p4 ≡ p3 ++ f4 → p5 ≡ p4 ++ f5 → p6 ≡ p5 ++ f6 →
+    p6 ≡ f1 ++ (f2 ++ (f3 ++ (f4 ++ (f5 ++ f6))))
+six p0 p1 p2 p3 p4 p5 p6 f1 f2 f3 f4 f5 f6 e0 e1 e2 e3 e4 e5 e6 = rw (e6, e5, e4, e3, e2, e1, e0) (simp append-assoc)

@@ -24,9 +24,13 @@ decimal n = digits (width n) n
 abbrev pub field : ℕ → ℕ → List ℕ
 field n b = decimal n ++ (b ∷ [])
 
--- the five fields in their order, a space (32) between and a newline (10) after
+-- the six fields in their order, a space (32) between and a newline (10) after
 abbrev pub printed : Answer → List ℕ
-printed a = field (a .code) 32 ++ (field (a .running) 32 ++ (field (a .retry) 32 ++ (field (a .mark) 32 ++ field (a .moved) 10)))
+printed a = field (a .code) 32 ++ (field (a .running) 32 ++ (field (a .retry) 32 ++ (field (a .mark) 32 ++ (field (a .moved) 32 ++ field (a .ahead) 10))))
+
+-- how many bytes the longest has: five digits and one byte more, six times
+abbrev pub longest : ℕ
+longest = 36
 
 -- a row was put at a place of the buffer, behind what stood before it; next is the place after the row, at most six on
 pub record Put (old : List ℕ) (at : ℕ) (row new : List ℕ) (next : ℕ) : Type 0 where

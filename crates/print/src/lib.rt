@@ -1,10 +1,13 @@
-// The line of an answer: its five fields in decimal, a space between, a newline after. Assumes nothing.
+// The line of an answer: its six fields in decimal, a space between, a newline after. Assumes nothing.
 ghost use mathlib.Core.Path.{_≡_};
 ghost use Prim.Native.Nat.{_+_, _≤_};
 ghost use mathlib.Core.List.{_++_};
 ghost use lib.ListN.{length, take};
-ghost use Rattle.print.specs.Print.{digits, width, field, printed, Put};
+ghost use Rattle.print.specs.Print.{digits, width, field, printed, longest, Put};
 use model::Answer;
+
+// How many bytes the longest line has.
+pub const LONGEST: usize = 36;
 
 // How many digits a number has.
 fn digit_count(n: u16) -> usize
@@ -53,12 +56,13 @@ fn put_field(out: &mut [u8], at: usize, n: u16, after: u8) -> usize
 
 // An answer's line, at the front of `out`; its length comes back.
 pub fn line(answer: Answer, out: &mut [u8]) -> usize
-    requires { ⌜ 30 ≤ length (now out) ⌝ }
+    requires { ⌜ longest ≤ length (now out) ⌝ }
     ensures { λ r. ⌜ (r ≤ length (now (out .exit))) × (take r (now (out .exit)) ≡ printed answer) ⌝ }
 {
     let a = put_field(out, 0, answer.code, b' ');
     let b = put_field(out, a, answer.running, b' ');
     let c = put_field(out, b, answer.retry, b' ');
     let d = put_field(out, c, answer.mark, b' ');
-    put_field(out, d, answer.moved, b'\n')
+    let e = put_field(out, d, answer.moved, b' ');
+    put_field(out, e, answer.ahead, b'\n')
 }

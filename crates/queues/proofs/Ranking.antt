@@ -20,7 +20,7 @@ use Rattle.model.specs.Valid.{Valid}
 use Rattle.model.proofs.Tests.{eqb-yes, eqb-no, leb-yes, leb-no}
 use Rattle.area.specs.Holds.{Holds, Becomes, with, sent, Gives}
 use Rattle.area.specs.Calls.{Does}
-use Rattle.moves.proofs.Outcomes.{when-yes, when-no, refuses, accepts}
+use Rattle.moves.proofs.Outcomes.{when-yes, when-no, refuses, accepts-ready}
 use Rattle.moves.proofs.Shared.{runner-stands}
 
 -- r is the running process
@@ -39,10 +39,10 @@ module _ {n : Shape} {old : List ℕ} {s : State model} (H : Holds n old s) (v :
 
     -- who runs stands in ready, and does not come into it
     pub set-priority-low : {mid new : List ℕ} {a : Answer} → Valid n s → v .0 ≤ 7 → Becomes n old mid (sent r ready (with (priority r) (v .0) s))
-        → Gives n mid new a (finish model (put (priority r) (v .0) (s .fields)) (sent r ready (with (priority r) (v .0) s) .queues) 0 0) → Does (SetPriority v) n old new s a
+        → Gives n mid new a (finish model (put (priority r) (v .0) (s .fields)) (sent r ready (with (priority r) (v .0) s) .queues) 0 0 0) → Does (SetPriority v) n old new s a
     unfolding decide
     set-priority-low valid h =
-        accepts H (SetPriority v) (put (priority r) (v .0) (s .fields)) ((r, ready) ∷ []) 0 0
+        accepts-ready H (SetPriority v) (put (priority r) (v .0) (s .fields)) (r ∷ []) 0 0
         (when-no 6 _ someone ∙ when-no 4 _ (leb-no 8 (v .0) (omega arith))
         ∙ ap {A = ℕ} (λ x. accept (put (priority x) (v .0) (s .fields)) ((x, ready) ∷ []) 0) (sym er))
         (rw (runner-stands er valid z))

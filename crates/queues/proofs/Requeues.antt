@@ -1,7 +1,7 @@
 -- Requeue: what it comes to by its tests, and who arrives in ready: a process from a park, since it stands in no other queue. Assumes nothing.
 use Prim.Native.Nat.{ℕ, suc, _≤_, _<_}
 use native.Mathlib.Omega.{arith}
-use mathlib.Core.Path.{_≡_, ap, _∙_}
+use mathlib.Core.Path.{_≡_, sym, ap, _∙_}
 use mathlib.Core.Bool.{true, false, not, _||_, or-true, and-false}
 use mathlib.Core.Logic.{_≢_, _⊎_}
 use mathlib.Core.List.{List, [], _∷_}
@@ -16,6 +16,7 @@ use Rattle.model.specs.Field.{priorities}
 use Rattle.model.specs.Rules.{readyOrPark, decide}
 use Rattle.model.specs.Machine.{State, model, moves, arrivals, finish, refusal}
 use Rattle.model.proofs.Tests.{holds, fails, EqCase, eqb-case, eqb-yes, eqb-no, leb-yes, leb-no, bounds-inside}
+use Rattle.model.proofs.Places.{ahead-park}
 use Rattle.model.proofs.Loops.{elsewhere}
 use Rattle.area.specs.Layout.{at}
 use Rattle.area.specs.Layout.Slot.{Tail}
@@ -99,7 +100,7 @@ module _ {n : Shape} {old : List ℕ} {s : State model} (H : Holds n old s) (a b
 
     pub requeue-moves : {came : ℕ} {mid new : List ℕ} → member (p .0) (s .queues (readyOrPark a)) ≡ true → came ≡ arrivals (s .queues ready) ((p .0, readyOrPark b) ∷ [])
         → Becomes n old mid (changed (s .fields) ((p .0, readyOrPark b) ∷ []) s)
-        → Gives n mid new r (finish model (s .fields) (moves model (priorities (s .fields)) (s .queues) ((p .0, readyOrPark b) ∷ [])) 0 came) → Does (Requeue a b p) n old new s r
+        → Gives n mid new r (finish model (s .fields) (moves model (priorities (s .fields)) (s .queues) ((p .0, readyOrPark b) ∷ [])) 0 came 0) → Does (Requeue a b p) n old new s r
     unfolding decide
     requeue-moves {came} m e b′ g =
-        accepts H (Requeue a b p) (s .fields) ((p .0, readyOrPark b) ∷ []) 0 came (when-no 7 _ (right n a b (p .0) x y z w) ∙ when-no 10 _ (ap not m)) e b′ g
+        accepts H (Requeue a b p) (s .fields) ((p .0, readyOrPark b) ∷ []) 0 came 0 (when-no 7 _ (right n a b (p .0) x y z w) ∙ when-no 10 _ (ap not m)) e (sym (ahead-park _ (p .0) b)) b′ g

@@ -63,5 +63,5 @@ pub fn requeue(
     if !moves::send(area, base, from, to, p, 0) {
         return answers::refusal(10);
     }
-    answers::finish(area, shape, 0, arrives(source, destination))
+    answers::finish(area, shape, 0, arrives(source, destination), 0)
 }

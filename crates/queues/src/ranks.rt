@@ -25,5 +25,5 @@ pub fn set_priority(area: &mut [u16], shape: Shape, priority: Priority) -> Answe
     }
     let base = area::records_at(shape);
     moves::rank(area, base, running, v);
-    answers::finish(area, shape, 0, 0)
+    answers::finish(area, shape, 0, 0, 0)
 }

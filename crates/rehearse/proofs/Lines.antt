@@ -14,7 +14,7 @@ use Rattle.script.specs.declared.Parsed.{Parsed}
 use Rattle.script.specs.declared.Parsed.the-variants as parsed
 use Rattle.script.specs.Line.{Meaning}
 use Rattle.script.specs.Line.Meaning.{call, none}
-use Rattle.print.specs.Print.{printed}
+use Rattle.print.specs.Print.{printed, longest}
 use Rattle.script.specs.Read.{Tells}
 use Rattle.rehearse.specs.Serve.{Serves}
 
@@ -39,7 +39,7 @@ module _ (r : Parsed) (bytes : List ℕ) (m : Meaning) (t : Tells r bytes m) whe
       subst⁻¹ (λ (x : Meaning). Serves x old old out) q (refl, o)
 
 -- the line of what is no call
-pub question : (l : List ℕ) → 30 ≤ length l → take 2 (set (set l 0 63) 1 10) ≡ bytesOf "?\n"
+pub question : (l : List ℕ) → longest ≤ length l → take 2 (set (set l 0 63) 1 10) ≡ bytesOf "?\n"
 question [] h = let z : ⊥ = omega arith in absurd z
 question (x ∷ []) h = let z : ⊥ = omega arith in absurd z
 question (x ∷ y ∷ ys) h = refl

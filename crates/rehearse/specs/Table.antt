@@ -34,15 +34,15 @@ startLine = "start 3 1 1 0 2 5 2"
 -- 01's nine lines: input, and its line
 abbrev pub nine : List (String × String)
 nine =
-    (startLine, "0 2 0 0 0")
-    ∷ ("enter 1", "0 2 0 1 0")
-    ∷ ("wait 1 1 0", "0 1 0 1 0")
-    ∷ ("enter 1", "0 1 0 1 0")
-    ∷ ("notify 1", "0 2 0 0 1")
-    ∷ ("enter 1", "0 1 0 0 0")
-    ∷ ("exit 1", "0 2 1 0 1")
-    ∷ ("exit 1", "9 0 0 0 0")
-    ∷ ("enter 1", "0 2 0 1 0")
+    (startLine, "0 2 0 0 0 0")
+    ∷ ("enter 1", "0 2 0 1 0 0")
+    ∷ ("wait 1 1 0", "0 1 0 1 0 0")
+    ∷ ("enter 1", "0 1 0 1 0 0")
+    ∷ ("notify 1", "0 2 0 0 1 0")
+    ∷ ("enter 1", "0 1 0 0 0 0")
+    ∷ ("exit 1", "0 2 1 0 1 0")
+    ∷ ("exit 1", "9 0 0 0 0 0")
+    ∷ ("enter 1", "0 2 0 1 0 0")
     ∷ []
 
 -- the eighteen words after the sample's start

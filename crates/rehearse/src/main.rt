@@ -2,6 +2,7 @@
 ghost use Prim.Native.Nat.{_+_, _<_, _≤_};
 ghost use lib.ListN.{length, take};
 ghost use Rattle.script.specs.Line.{meaning};
+ghost use Rattle.print.specs.Print.{longest};
 ghost use Rattle.rehearse.specs.Serve.{Serves, Within};
 use script::Parsed;
 
@@ -21,7 +22,7 @@ fn serve(
 ) -> usize
     requires { ⌜ 8192 ≤ length (now table) ⌝ }
     requires { ⌜ 8192 ≤ length (now bytes) ⌝ }
-    requires { ⌜ 30 ≤ length (now out) ⌝ }
+    requires { ⌜ longest ≤ length (now out) ⌝ }
     ensures { λ r. ⌜ r ≤ length (now (out .entry)) ⌝ }
     ensures { λ r. ⌜ Serves (meaning (now (line .entry))) (now (area .entry)) (now (area .exit)) (take r (now (out .exit))) ⌝ }
 {
@@ -53,12 +54,12 @@ fn line_done(
 ) -> usize
     requires { ⌜ 8192 ≤ length (now table) ⌝ }
     requires { ⌜ 8192 ≤ length (now bytes) ⌝ }
-    requires { ⌜ full + 30 ≤ length (now out) ⌝ }
-    ensures { λ r. ⌜ r + 30 ≤ length (now (out .entry)) ⌝ }
+    requires { ⌜ full + longest ≤ length (now out) ⌝ }
+    ensures { λ r. ⌜ r + longest ≤ length (now (out .entry)) ⌝ }
 {
     let n = serve(line, table, bytes, area, &mut out[full..]);
     let end = full + n;
-    if out.len() - end < 30 {
+    if out.len() - end < print::LONGEST {
         io::write_all(1, &out[..end]);
         return 0;
     }
@@ -78,7 +79,7 @@ fn feed(
     requires { ⌜ fill ≤ length (now line) ⌝ }
     requires { ⌜ 8192 ≤ length (now table) ⌝ }
     requires { ⌜ 8192 ≤ length (now bytes) ⌝ }
-    requires { ⌜ 30 ≤ length (now out) ⌝ }
+    requires { ⌜ longest ≤ length (now out) ⌝ }
     ensures { λ r. ⌜ r ≤ length (now (line .entry)) ⌝ }
 {
     let mut at = fill;
@@ -111,7 +112,7 @@ fn read_once(
     requires { ⌜ fill ≤ length (now line) ⌝ }
     requires { ⌜ 8192 ≤ length (now table) ⌝ }
     requires { ⌜ 8192 ≤ length (now bytes) ⌝ }
-    requires { ⌜ 30 ≤ length (now out) ⌝ }
+    requires { ⌜ longest ≤ length (now out) ⌝ }
     ensures { λ r. ⌜ Within r (length (now (line .entry))) ⌝ }
 {
     let mut chunk = [0u8; 8192];
@@ -128,7 +129,7 @@ fn read_once(
 fn all(line: &mut [u8], table: &mut [u16], bytes: &mut [u8], area: &mut [u16], out: &mut [u8])
     requires { ⌜ 8192 ≤ length (now table) ⌝ }
     requires { ⌜ 8192 ≤ length (now bytes) ⌝ }
-    requires { ⌜ 30 ≤ length (now out) ⌝ }
+    requires { ⌜ longest ≤ length (now out) ⌝ }
 {
     let mut fill: usize = 0;
     let mut turns = u64::MAX;

@@ -3,19 +3,19 @@ use mathlib.Core.Path.{_≡_, refl, sym, ap, _∙_, subst}
 use mathlib.Core.Logic.{_≢_}
 use mathlib.Core.Bool.{Bool, true, false, not, cond, false≢true}
 use mathlib.Core.List.{List, [], _∷_, _++_}
-use Prim.Native.Nat.{ℕ, _≤_, _<_}
+use Prim.Native.Nat.{ℕ, _+_, _≤_, _<_}
 use native.Mathlib.Decide.{ℕ-discrete}
 use native.Mathlib.Omega.{arith}
 use lib.Dec.{eqb}
 use lib.ListN.{length}
-use Rattle.model.specs.Queue.{bit, inside, member, count, first, All}
+use Rattle.model.specs.Queue.{bit, inside, member, count, first, All, takeWhile, aheadOf}
 use Rattle.model.proofs.Tests.{bounds-inside, denied}
 use Rattle.model.proofs.Lists.{all-left, all-right, absent-count, at-most, all-map}
 use Rattle.ring.specs.Link.{Stands, next, point}
-use Rattle.ring.specs.Ring.{lastOf, Linked, Ring, takeWhile, aheadOf}
+use Rattle.ring.specs.Ring.{lastOf, Linked, Ring}
 use Rattle.ring.proofs.Links.{point-length, point-next-other}
 use Rattle.ring.proofs.Lists.{Fresh, Distinct, init, all-last, all-init, all-zip, all-members, members-all, member-last, distinct-once, once-distinct, mid-fresh, rotated, lastOf-append, init-append}
-use Rattle.ring.proofs.Places.{all-take}
+use Rattle.ring.proofs.Places.{all-take, ahead-last}
 
 -- ---- links
 
@@ -115,6 +115,11 @@ before-some tail p xs {q} e z = go (member p xs) refl
     go : (b : Bool) → member p xs ≡ b → (member p xs ≡ true) × (q ≡ lastOf tail (aheadOf p xs))
     go true m = (m, e ∙ rw m refl)
     go false m = absurd (z (e ∙ rw m refl))
+
+-- all others are ahead of the tail
+pub ring-ahead : {r : List ℕ} {tail : ℕ} (xs : List ℕ) → Ring r tail xs → tail ≢ 0 → length (aheadOf tail xs) + 1 ≡ length xs
+ring-ahead [] R h = absurd (h (sym (R .ends)))
+ring-ahead {tail = tail} (x ∷ xs) R h = ahead-last tail x xs (R .ends) (R .once tail)
 
 pub ring-first : {r : List ℕ} {tail : ℕ} (xs : List ℕ) → Ring r tail xs → tail ≢ 0 → next r tail ≡ first xs
 ring-first [] R h = absurd (h (sym (R .ends)))

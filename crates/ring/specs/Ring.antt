@@ -1,12 +1,12 @@
 -- What a ring of processes is, and what joining and leaving it promise. Assumes nothing.
 use mathlib.Core.Path.{_≡_}
 use mathlib.Core.Logic.{_≢_}
-use mathlib.Core.Bool.{Bool, true, false, not, cond}
+use mathlib.Core.Bool.{true, false}
 use mathlib.Core.List.{List, [], _∷_}
 use Prim.Native.Nat.{ℕ, zero, suc, _/_, _%_, _≤_}
-use lib.Dec.{eqb, leb}
+use lib.Dec.{leb}
 use lib.ListN.{length, getD}
-use Rattle.model.specs.Queue.{member, count, remove, insert}
+use Rattle.model.specs.Queue.{member, count, takeWhile, aheadOf, remove, insert}
 use Rattle.ring.specs.Link.{Stands, link, next, priority, point, wedge}
 
 -- ---- rings
@@ -29,15 +29,6 @@ pub record Ring (r : List ℕ) (tail : ℕ) (xs : List ℕ) : Type 0 where
   pub once : (x : ℕ) → count x xs ≤ 1
 
 -- ---- places in a ring
-
--- the processes ahead of the first that fails a test
-abbrev pub takeWhile : (ℕ → Bool) → List ℕ → List ℕ
-takeWhile t [] = []
-takeWhile t (x ∷ xs) = cond (t x) (x ∷ takeWhile t xs) []
-
--- the processes ahead of p, which stands among xs
-abbrev pub aheadOf : ℕ → List ℕ → List ℕ
-aheadOf p xs = takeWhile (λ x. not (eqb x p)) xs
 
 -- the processes ahead of p once it has joined: those before the first that is lower than p
 abbrev pub aheadFor : (ℕ → ℕ) → ℕ → List ℕ → List ℕ
@@ -67,3 +58,8 @@ leader (suc t) p us = lastOf (suc t) us
 pub record Joined (r r′ : List ℕ) (tail p t : ℕ) (xs : List ℕ) : Type 0 where
   pub ring : Ring r′ t (insert (priority r) p xs)
   pub words : r′ ≡ wedge r (leader tail p (aheadFor (priority r) p xs)) p
+
+-- what a newcomer p is told, now that its ring has xs: tail is the last of them and, unless that is p, ahead are ahead of p
+pub record Arrived (p : ℕ) (xs : List ℕ) (tail ahead : ℕ) : Type 0 where
+  pub ends : lastOf 0 xs ≡ tail
+  pub counts : tail ≢ p → ahead ≡ length (aheadOf p xs)

@@ -123,5 +123,5 @@ pub fn start(area: &mut [u16], shape: Shape, priorities: &[u8]) -> Answer
     }
     count_out(area, shape);
     line_up(area, shape, priorities);
-    answers::finish(area, shape, 0, 0)
+    answers::finish(area, shape, 0, 0, 0)
 }

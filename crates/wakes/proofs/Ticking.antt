@@ -13,7 +13,7 @@ use lib.ListN.{length, getD}
 use Rattle.model.specs.declared.Shape.{Shape}
 use Rattle.model.specs.declared.Answer.{Answer}
 use Rattle.model.specs.declared.Call.the-variants.{Tick}
-use Rattle.model.specs.Queue.{Queue, inside, exists, upTo, isCondition, member, count, filter, toReady}
+use Rattle.model.specs.Queue.{Queue, inside, exists, upTo, isCondition, member, count, filter}
 use Rattle.model.specs.Queue.Queue.{ready, park, lock, condition}
 use Rattle.model.specs.Field.{Fields, put, some}
 use Rattle.model.specs.Field.Field.{clock, timer}
@@ -32,7 +32,7 @@ use Rattle.area.specs.Calls.{Does}
 use Rattle.area.proofs.Puts.{becomes-none}
 use Rattle.area.proofs.Rings.{member-inside, queue-none}
 use Rattle.moves.proofs.Loose.{waits-in}
-use Rattle.moves.proofs.Outcomes.{accepts}
+use Rattle.moves.proofs.Outcomes.{accepts-ready}
 use Rattle.crowds.proofs.Leaving.{loose-empty}
 use Rattle.wakes.proofs.Waking.{woken, woken-becomes}
 
@@ -242,7 +242,7 @@ valid-clock P w = record {
 
 pub ticks : {n : Shape} {old mid new : List ℕ} {s : State model} {before now m : ℕ} {a : Answer} → Holds n old s → Valid n s → before ≡ s .fields clock → now ≡ (before + 1) % 65536
     → m ≡ length (due n (s .fields) now) → Becomes n old mid (woken (due n (s .fields) now) (with clock now s))
-    → Gives n mid new a (finish model (calm (due n (s .fields) now) (put clock now (s .fields))) (woken (due n (s .fields) now) (with clock now s) .queues) 0 m) → Does Tick n old new s a
+    → Gives n mid new a (finish model (calm (due n (s .fields) now) (put clock now (s .fields))) (woken (due n (s .fields) now) (with clock now s) .queues) 0 m 0) → Does Tick n old new s a
 unfolding decide
 ticks {n} {s = s} {now = now} {m} H v was is e b g =
-    accepts H Tick (calm (due n (s .fields) now) (put clock now (s .fields))) (toReady (due n (s .fields) now)) 0 m (rw (is, was)) (e ∙ sym (due-moved n s v now)) b g
+    accepts-ready H Tick (calm (due n (s .fields) now) (put clock now (s .fields))) (due n (s .fields) now) 0 m (rw (is, was)) (e ∙ sym (due-moved n s v now)) b g

@@ -33,7 +33,7 @@ use Rattle.area.proofs.Puts.{becomes-none}
 use Rattle.area.proofs.Rings.{member-inside, one-queue, queue-once}
 use Rattle.area.proofs.Records.{queue-ring}
 use Rattle.moves.proofs.Numbers.{not-outside, first-only, nobody-first}
-use Rattle.moves.proofs.Outcomes.{when-no, Tested, missing-tested, calling-tested, refuses-by, accepts}
+use Rattle.moves.proofs.Outcomes.{when-no, Tested, missing-tested, calling-tested, refuses-by, accepts, accepts-ready}
 use Rattle.moves.proofs.Loose.{settled}
 
 -- ---- the rules, with r the running process and k the code of the tests on the numbers
@@ -101,30 +101,30 @@ module _ {n : Shape} {old : List ℕ} {s : State model} (H : Holds n old s) (c :
   -- the first wakes, if there is one
   pub notify-first : {a : Answer} {r k m : ℕ} {mid new : List ℕ} → r ≡ s .fields running → Calling r (n .conditions) c k → k ≡ 0 → m ≡ length (firstOnly (s .queues (condition c)))
       → Becomes n old mid (woken (firstOnly (s .queues (condition c))) s)
-      → Gives n mid new a (finish model (woken (firstOnly (s .queues (condition c))) s .fields) (woken (firstOnly (s .queues (condition c))) s .queues) 0 m) → Does (Notify c) n old new s a
+      → Gives n mid new a (finish model (woken (firstOnly (s .queues (condition c))) s .fields) (woken (firstOnly (s .queues (condition c))) s .queues) 0 m 0) → Does (Notify c) n old new s a
   notify-first {m = m} runs ek z e b g =
-      accepts H (Notify c) (calm (firstOnly (s .queues (condition c))) (s .fields)) (toReady (firstOnly (s .queues (condition c)))) 0 m (notify-0 H c runs ek z) (e ∙ sym first-arrives) b g
+      accepts-ready H (Notify c) (calm (firstOnly (s .queues (condition c))) (s .fields)) (firstOnly (s .queues (condition c))) 0 m (notify-0 H c runs ek z) (e ∙ sym first-arrives) b g
 
   -- all wake
   pub broadcast-all : {a : Answer} {r k m : ℕ} {mid new : List ℕ} → r ≡ s .fields running → Calling r (n .conditions) c k → k ≡ 0 → m ≡ length (s .queues (condition c))
       → Becomes n old mid (changed (calm (s .queues (condition c)) (s .fields)) (toReady (s .queues (condition c))) s)
-      → Gives n mid new a (finish model (calm (s .queues (condition c)) (s .fields)) (moves model (priorities (calm (s .queues (condition c)) (s .fields))) (s .queues) (toReady (s .queues (condition c)))) 0 m)
+      → Gives n mid new a (finish model (calm (s .queues (condition c)) (s .fields)) (moves model (priorities (calm (s .queues (condition c)) (s .fields))) (s .queues) (toReady (s .queues (condition c)))) 0 m 0)
       → Does (Broadcast c) n old new s a
   broadcast-all {m = m} runs ek z e b g =
-      accepts H (Broadcast c) (calm (s .queues (condition c)) (s .fields)) (toReady (s .queues (condition c))) 0 m (broadcast-0 H c runs ek z) (e ∙ sym all-arrive) b g
+      accepts-ready H (Broadcast c) (calm (s .queues (condition c)) (s .fields)) (s .queues (condition c)) 0 m (broadcast-0 H c runs ek z) (e ∙ sym all-arrive) b g
 
   -- by a device: the first wakes, or nobody waits there, and the wakeup is set
   pub naked-first : {a : Answer} {m : ℕ} {mid new : List ℕ} → inside (n .conditions) c ≡ true → m ≡ length (firstOnly (s .queues (condition c))) → m ≢ 0
       → Becomes n old mid (woken (firstOnly (s .queues (condition c))) s)
-      → Gives n mid new a (finish model (woken (firstOnly (s .queues (condition c))) s .fields) (woken (firstOnly (s .queues (condition c))) s .queues) 0 m) → Does (Naked c) n old new s a
+      → Gives n mid new a (finish model (woken (firstOnly (s .queues (condition c))) s .fields) (woken (firstOnly (s .queues (condition c))) s .queues) 0 m 0) → Does (Naked c) n old new s a
   naked-first {m = m} i e k b g =
-      accepts H (Naked c) (calm (firstOnly (s .queues (condition c))) (s .fields)) (toReady (firstOnly (s .queues (condition c)))) 0 m
+      accepts-ready H (Naked c) (calm (firstOnly (s .queues (condition c))) (s .fields)) (firstOnly (s .queues (condition c))) 0 m
       (naked-0 H c i ∙ nakedly-first c (s .queues (condition c)) (s .fields) (λ z. k (e ∙ z))) (e ∙ sym first-arrives) b g
 
   pub naked-nobody : {a : Answer} {mid new : List ℕ} → inside (n .conditions) c ≡ true → 0 ≡ length (firstOnly (s .queues (condition c)))
-      → Becomes n old mid (with (wakeup c) 1 s) → Gives n mid new a (finish model (put (wakeup c) 1 (s .fields)) (s .queues) 1 0) → Does (Naked c) n old new s a
+      → Becomes n old mid (with (wakeup c) 1 s) → Gives n mid new a (finish model (put (wakeup c) 1 (s .fields)) (s .queues) 1 0 0) → Does (Naked c) n old new s a
   naked-nobody i e b g =
-      accepts H (Naked c) (put (wakeup c) 1 (s .fields)) [] 1 0 (naked-0 H c i ∙ nakedly-none c (s .queues (condition c)) (s .fields) (sym e)) refl b g
+      accepts H (Naked c) (put (wakeup c) 1 (s .fields)) [] 1 0 0 (naked-0 H c i ∙ nakedly-none c (s .queues (condition c)) (s .fields) (sym e)) refl refl b g
 
 -- where nobody has woken, nothing has changed
 pub still : {n : Shape} {old new : List ℕ} (s : State model) (c : ℕ) → 0 ≡ length (firstOnly (s .queues (condition c))) → Becomes n old new (woken (firstOnly (s .queues (condition c))) s) → Becomes n old new s

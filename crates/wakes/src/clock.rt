@@ -82,5 +82,5 @@ pub fn tick(area: &mut [u16], shape: Shape) -> Answer
     let time = std::num::wrapping_add_u16(before, 1);
     area::put(area, places::clock(), time);
     let moved = wake_due(area, shape, time);
-    answers::finish(area, shape, 0, moved)
+    answers::finish(area, shape, 0, moved, 0)
 }

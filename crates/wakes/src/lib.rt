@@ -50,7 +50,7 @@ pub fn notify(area: &mut [u16], shape: Shape, condition: u16) -> Answer
         return answers::refusal(code);
     }
     let moved = wake_first(area, shape, condition);
-    answers::finish(area, shape, 0, moved)
+    answers::finish(area, shape, 0, moved, 0)
 }
 
 // All of the condition whose tail stands at from wake, first to last. The answer is how many.
@@ -77,7 +77,7 @@ pub fn broadcast(area: &mut [u16], shape: Shape, condition: u16) -> Answer
     }
     let from = area::condition_at(shape, condition);
     let all = wake_all(area, shape, from);
-    answers::finish(area, shape, 0, all)
+    answers::finish(area, shape, 0, all, 0)
 }
 
 pub fn naked(area: &mut [u16], shape: Shape, condition: u16) -> Answer
@@ -90,8 +90,8 @@ pub fn naked(area: &mut [u16], shape: Shape, condition: u16) -> Answer
     }
     let moved = wake_first(area, shape, condition);
     if moved != 0 {
-        return answers::finish(area, shape, 0, moved);
+        return answers::finish(area, shape, 0, moved, 0);
     }
     area::put(area, places::wakeup(shape, condition), 1);
-    answers::finish(area, shape, 1, 0)
+    answers::finish(area, shape, 1, 0, 0)
 }

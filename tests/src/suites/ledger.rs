@@ -106,25 +106,18 @@ fn begin(
     mut area: Guarded,
     start: &Call,
 ) -> Result<Run, String> {
-    let Call::Start {
-        processes,
-        locks,
-        conditions,
-        parks,
-        priorities,
-    } = start
-    else {
+    let &Call::Start { locks, .. } = start else {
         return Err("a history begins with Start".to_string());
     };
-    let (ledger, expected) = Ledger::start(*processes, *locks, *conditions, *parks, priorities)
-        .map_err(|code| format!("the ledger refuses {start:?} with {code}"))?;
+    let (ledger, expected) =
+        Ledger::start(start).map_err(|code| format!("the ledger refuses {start:?} with {code}"))?;
     let answer = perform(tally, &mut area, start)?;
     tally.same(&answer, &expected, || format!("{start:?}"))?;
     let run = Run {
         area,
         ledger,
-        entries: vec![0; usize::from(*locks)],
-        leavings: vec![0; usize::from(*locks)],
+        entries: vec![0; usize::from(locks)],
+        leavings: vec![0; usize::from(locks)],
     };
     Ok(run)
 }

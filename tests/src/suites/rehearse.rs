@@ -78,7 +78,7 @@ fn number_of(word: &[u8]) -> Option<u16> {
 }
 
 /// The call that a line is.
-fn call_of(line: &[u8]) -> Option<Call> {
+pub fn call_of(line: &[u8]) -> Option<Call> {
     if line.len() > LONGEST_LINE {
         return None;
     }
@@ -117,14 +117,15 @@ fn call_of(line: &[u8]) -> Option<Call> {
     }
 }
 
+/// The line of an answer's fields.
+pub fn printed(fields: [u16; 6]) -> String {
+    fields.map(|number| number.to_string()).join(" ") + "\n"
+}
+
 /// The line that answers a line.
 fn answer_to(area: &mut [u16], line: &[u8]) -> String {
     call_of(line).map_or("?\n".to_string(), |call| {
-        let answer = reference::perform(area, &call);
-        format!(
-            "{} {} {} {} {}\n",
-            answer.code, answer.running, answer.retry, answer.mark, answer.moved
-        )
+        printed(reference::perform(area, &call).fields())
     })
 }
 
@@ -169,7 +170,7 @@ fn rehearse() -> Result<Child, String> {
     command.spawn().map_err(|why| format!("{PROGRAM}: {why}"))
 }
 
-/// A whole script, from a pipe.
+/// A whole script, with the reference's answers.
 fn compare(tally: &mut Tally, script: &[u8]) -> Outcome {
     let mut area = vec![0; AREA_WORDS];
     let whole = script.strip_suffix(b"\n").unwrap_or(script);
@@ -177,7 +178,11 @@ fn compare(tally: &mut Tally, script: &[u8]) -> Outcome {
     let count = if script.is_empty() { 0 } else { usize::MAX };
     let expected = lines.take(count).map(|line| answer_to(&mut area, line));
     let expected: Vec<String> = expected.collect();
+    play(tally, script, &expected)
+}
 
+/// A whole script from a pipe, each answer's line.
+pub fn play(tally: &mut Tally, script: &[u8], expected: &[String]) -> Outcome {
     let mut child = rehearse()?;
     let mut input = child.stdin.take().expect("a pipe");
     let script = script.to_vec();
@@ -191,7 +196,7 @@ fn compare(tally: &mut Tally, script: &[u8]) -> Outcome {
         "Rehearse reads all and ends".to_string()
     })?;
     let found: Vec<&str> = output.split_inclusive('\n').collect();
-    for (number, (found, expected)) in found.iter().zip(&expected).enumerate() {
+    for (number, (found, expected)) in found.iter().zip(expected).enumerate() {
         tally.same(*found, expected, || format!("answer {number}"))?;
     }
     tally.same(&found.len(), &expected.len(), || "answers".to_string())

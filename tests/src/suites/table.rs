@@ -27,17 +27,6 @@ fn example() -> Call {
     start([3, 1, 1, 0], &[2, 5, 2])
 }
 
-fn answer(fields: [u16; 5]) -> Answer {
-    let [code, running, retry, mark, moved] = fields;
-    Answer {
-        code,
-        running,
-        retry,
-        mark,
-        moved,
-    }
-}
-
 fn lines() -> Vec<(Call, Answer)> {
     let wait = Call::Wait {
         lock: 1,
@@ -45,15 +34,15 @@ fn lines() -> Vec<(Call, Answer)> {
         ticks: 0,
     };
     vec![
-        (example(), answer([0, 2, 0, 0, 0])),
-        (Call::Enter(1), answer([0, 2, 0, 1, 0])),
-        (wait, answer([0, 1, 0, 1, 0])),
-        (Call::Enter(1), answer([0, 1, 0, 1, 0])),
-        (Call::Notify(1), answer([0, 2, 0, 0, 1])),
-        (Call::Enter(1), answer([0, 1, 0, 0, 0])),
-        (Call::Exit(1), answer([0, 2, 1, 0, 1])),
-        (Call::Exit(1), answer([9, 0, 0, 0, 0])),
-        (Call::Enter(1), answer([0, 2, 0, 1, 0])),
+        (example(), Answer::of([0, 2, 0, 0, 0, 0])),
+        (Call::Enter(1), Answer::of([0, 2, 0, 1, 0, 0])),
+        (wait, Answer::of([0, 1, 0, 1, 0, 0])),
+        (Call::Enter(1), Answer::of([0, 1, 0, 1, 0, 0])),
+        (Call::Notify(1), Answer::of([0, 2, 0, 0, 1, 0])),
+        (Call::Enter(1), Answer::of([0, 1, 0, 0, 0, 0])),
+        (Call::Exit(1), Answer::of([0, 2, 1, 0, 1, 0])),
+        (Call::Exit(1), Answer::of([9, 0, 0, 0, 0, 0])),
+        (Call::Enter(1), Answer::of([0, 2, 0, 1, 0, 0])),
     ]
 }
 
@@ -80,14 +69,14 @@ fn on(tally: &mut Tally, perform: Perform) -> Outcome {
 }
 
 fn packing(tally: &mut Tally) -> Outcome {
-    let packed = answer([1, 2, 3, 4, 5]).pack();
-    let expected = 1 + (2 << 10) + (3 << 20) + (4 << 30) + (5 << 40);
+    let packed = Answer::of([1, 2, 3, 4, 5, 6]).pack();
+    let expected = 1 + (2 << 10) + (3 << 20) + (4 << 30) + (5 << 40) + (6 << 50);
     tally.same(&packed, &expected, || "packing".to_string())
 }
 
 fn ledger_lines(tally: &mut Tally) -> Outcome {
     let (mut ledger, first) =
-        Ledger::start(3, 1, 1, 0, &[2, 5, 2]).map_err(|code| format!("refused: {code}"))?;
+        Ledger::start(&example()).map_err(|code| format!("refused: {code}"))?;
     let lines = lines();
     tally.same(&first, &lines[0].1, || "ledger, start".to_string())?;
     for (call, expected) in &lines[1..] {
@@ -180,14 +169,14 @@ fn timers(tally: &mut Tally, perform: Perform) -> Outcome {
             perform,
             &mut area,
             &Call::Enter(1),
-            answer([0, 2, 0, 1, 0]).pack(),
+            Answer::of([0, 2, 0, 1, 0, 0]).pack(),
         )?;
         row(
             tally,
             perform,
             &mut area,
             &wait,
-            answer([0, 1, 0, 1, 0]).pack(),
+            Answer::of([0, 1, 0, 1, 0, 0]).pack(),
         )?;
         tally.same(&area[timer_at], &stored, || {
             format!("clock {clock}, t {ticks}")

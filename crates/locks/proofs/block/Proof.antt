@@ -1,4 +1,4 @@
--- `locks::block` meets its contract: p is failed, and moves from ready to the lock. Assumes nothing.
+-- `locks::block` meets its contract: p is failed, and queues at the lock. Assumes nothing.
 use native.Mathlib.Omega.{arith}
 use mathlib.Core.Path.{refl}
 use Rattle.model.specs.Queue.Queue.{ready, lock}
@@ -19,32 +19,27 @@ put-requires c κs =
     let L = c .failed .ensures in
     (c .before .before .before .args .shape, failed (c .before .before .before .args .p), (t .0, t .1), taking (failed (c .before .before .before .args .p)) L refl (rw (L .0) (omega arith)))
 
-ready-at-requires : tie.Need-ready-at-requires
-ready-at-requires c κs = search needs
-
 lock-at-requires : tie.Need-lock-at-requires
 lock-at-requires c κs = search needs
 
-records-at-requires : tie.Need-records-at-requires
-records-at-requires c κs = search needs
-
-send-requires : tie.Need-send-requires
-send-requires c κs =
-    let n = c .before .before .before .before .before .before .before .before .before .before .args .shape in
-    let t = c .before .before .before .before .before .before .before .before .before .before .pre .0 in
-    let L = c .before .before .before .before .before .before .before .failed .ensures in
-    let b = c .before .before .before .before .before .before .put .ensures n (t .0) (failed (c .before .before .before .before .before .before .before .before .before .before .args .p)) (t .1) (taking (failed (c .before .before .before .before .before .before .before .before .before .before .args .p)) L refl (rw (L .0) (omega arith))) in
-    (n, c .before .records-at .ensures, going (b .holds) ready (lock (c .before .before .before .before .before .before .before .before .before .before .args .lock)) refl (c .before .before .before .before .before .before .before .before .before .before .pre .1) (c .before .before .before .ready-at .ensures n) (c .before .before .lock-at .ensures) (t .2) refl)
+queue-requires : tie.Need-queue-requires
+queue-requires c κs =
+    let n = c .before .before .before .before .before .before .before .before .args .shape in
+    let t = c .before .before .before .before .before .before .before .before .pre .0 in
+    let L = c .before .before .before .before .before .failed .ensures in
+    let b = c .before .before .before .before .put .ensures n (t .0) (failed (c .before .before .before .before .before .before .before .before .args .p)) (t .1) (taking (failed (c .before .before .before .before .before .before .before .before .args .p)) L refl (rw (L .0) (omega arith))) in
+    (going (b .holds) ready (lock (c .before .before .before .before .before .before .before .before .args .lock)) refl (c .before .before .before .before .before .before .before .before .pre .1) refl (c .before .lock-at .ensures) (t .2) refl, refl)
 
 same-length : tie.Need-same-length
 same-length c = search needs
 
 returns : tie.Need-returns
 returns c s H m =
-    let n = c .before .before .before .before .before .before .before .before .before .before .before .before .before .args .shape in
-    let L = c .before .before .before .before .before .before .before .before .before .before .failed .ensures in
-    let b = c .before .before .before .before .before .before .before .before .before .put .ensures n s (failed (c .before .before .before .before .before .before .before .before .before .before .before .before .before .args .p)) H (taking (failed (c .before .before .before .before .before .before .before .before .before .before .before .before .before .args .p)) L refl (rw (L .0) (omega arith))) in
-    becomes-then b (c .before .before .send .ensures n (c .before .before .before .before .records-at .ensures) (going (b .holds) ready (lock (c .before .before .before .before .before .before .before .before .before .before .before .before .before .args .lock)) refl (c .before .before .before .before .before .before .before .before .before .before .before .before .before .pre .1) (c .before .before .before .before .before .before .ready-at .ensures n) (c .before .before .before .before .before .lock-at .ensures) m refl) .done refl)
+    let n = c .before .before .before .before .before .before .before .before .before .before .before .args .shape in
+    let L = c .before .before .before .before .before .before .before .before .failed .ensures in
+    let b = c .before .before .before .before .before .before .before .put .ensures n s (failed (c .before .before .before .before .before .before .before .before .before .before .before .args .p)) H (taking (failed (c .before .before .before .before .before .before .before .before .before .before .before .args .p)) L refl (rw (L .0) (omega arith))) in
+    let q = c .before .before .queue .ensures (going (b .holds) ready (lock (c .before .before .before .before .before .before .before .before .before .before .before .args .lock)) refl (c .before .before .before .before .before .before .before .before .before .before .before .pre .1) refl (c .before .before .before .before .lock-at .ensures) m refl) refl in
+    (q .0, becomes-then b (q .1))
 
 pub block-spec : {M : Type 1} → statement M
 block-spec =
@@ -52,9 +47,7 @@ block-spec =
     (tie.spec
     failed-requires
     put-requires
-    ready-at-requires
     lock-at-requires
-    records-at-requires
-    send-requires
+    queue-requires
     same-length
     returns)

@@ -78,7 +78,7 @@ finish-requires-2 c κs =
     let n = c .before .before .before .before .before .before .before .before .before .before .before .before .before .before .before .before .args .shape in
     let pre = c .before .before .before .before .before .before .before .before .before .before .before .before .before .before .before .before .pre in
     let runs = c .before .before .before .before .before .before .before .before .before .before .before .before .get .ensures n (pre .state) running (pre .holds) (c .before .before .before .before .before .before .before .before .before .before .before .before .before .running .ensures n) in
-    (_, c .before .before .before .block .ensures (pre .state) (pre .holds) (runner-stands runs (pre .valid) (calling-runs (c .before .before .before .before .before .before .before .before .before .before .before .calling .ensures) (c .before .before .before .before .before .before .before .before .before .before .if1 .left))) .holds)
+    (_, c .before .before .before .block .ensures (pre .state) (pre .holds) (runner-stands runs (pre .valid) (calling-runs (c .before .before .before .before .before .before .before .before .before .before .before .calling .ensures) (c .before .before .before .before .before .before .before .before .before .before .if1 .left))) .1 .holds)
 
 same-length-4 : tie.Need-same-length-4
 same-length-4 c = search needs
@@ -90,7 +90,7 @@ returns-4 c s H v =
     let calling = c .before .before .before .before .before .before .before .before .before .before .before .before .before .before .calling in
     let if1 = c .before .before .before .before .before .before .before .before .before .before .before .before .before .if1 in
     let b = c .before .before .before .before .before .before .block .ensures s H (runner-stands runs v (calling-runs (calling .ensures) (if1 .left))) in
-    enter-taken H (c .before .before .before .before .before .before .before .before .before .before .before .before .before .before .before .before .before .before .before .args .lock) runs (calling .ensures) (if1 .left) (c .before .before .before .before .before .before .before .before .before .before .get2 .ensures n s (holder (c .before .before .before .before .before .before .before .before .before .before .before .before .before .before .before .before .before .before .before .args .lock)) H (c .before .before .before .before .before .before .before .before .before .before .before .holder .ensures)) (c .before .before .before .before .before .before .before .before .before .if2 .left) (c .before .before .before .before .before .before .before .before .if3 .left) b (c .before .before .finish2 .ensures _ (b .holds))
+    enter-taken H (c .before .before .before .before .before .before .before .before .before .before .before .before .before .before .before .before .before .before .before .args .lock) runs (calling .ensures) (if1 .left) (c .before .before .before .before .before .before .before .before .before .before .get2 .ensures n s (holder (c .before .before .before .before .before .before .before .before .before .before .before .before .before .before .before .before .before .before .before .args .lock)) H (c .before .before .before .before .before .before .before .before .before .before .before .holder .ensures)) (c .before .before .before .before .before .before .before .before .before .if2 .left) (c .before .before .before .before .before .before .before .before .if3 .left) b (c .before .before .finish2 .ensures _ (b .1 .holds))
 
 pub enter-spec : {M : Type 1} → statement M
 enter-spec =

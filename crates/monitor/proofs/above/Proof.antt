@@ -1,5 +1,5 @@
 -- `monitor::above` meets its contract: the field below, the others above, and the number fits. Assumes nothing.
-use native.Mathlib.Nat.{mod-lt, mul-le-mul-right}
+use native.Mathlib.Nat.{mod-lt}
 use native.Mathlib.Omega.{arith}
 use borrow.Author.Needs.{needs}
 use Rattle.monitor.proofs.above.Statement.{statement}
@@ -9,10 +9,10 @@ rem-result : tie.Need-rem-result
 rem-result c = search needs
 
 mul-result : tie.Need-mul-result
-mul-result c = record { fits = omega (arith, mul-le-mul-right (c .args .high) (c .pre .1)) }
+mul-result c = record { fits = omega (arith, c .pre .2) }
 
 add-result : tie.Need-add-result
-add-result c = record { fits = omega (arith, mod-lt (c .args .low) (c .pre .0), mul-le-mul-right (c .args .high) (c .pre .1)) }
+add-result c = record { fits = omega (arith, mod-lt (c .args .low) (c .pre .0), c .pre .1, c .pre .2) }
 
 returns : tie.Need-returns
 returns c = omega arith

@@ -1,6 +1,6 @@
 -- `moves::put_in` meets its contract: the records are lent to the rings, and what comes back changes one ring. Assumes nothing.
 use borrow.Author.Needs.{needs}
-use Rattle.moves.proofs.Relinks.{tail-below, tail-again, lent-join, back-join}
+use Rattle.moves.proofs.Relinks.{tail-below, tail-again, lent-join, back-arrived, back-join}
 use Rattle.ring.proofs.Rings.{ring-tail-small}
 use Rattle.moves.proofs.put_in.Statement.{statement}
 use Rattle.moves.proofs.put_in.Tie as tie
@@ -36,7 +36,7 @@ with-next-requires : tie.Need-with-next-requires
 with-next-requires c κs =
     let pre = c .before .before .before .before .before .before .before .pre in
     let L = lent-join (pre .2) (pre .1) (c .before .before .before .next-field .ensures) in
-    ring-tail-small _ (c .before .before .join .ensures _ (L .1) (L .2) (pre .2 .out (pre .2 .queue)) .ring)
+    ring-tail-small _ (c .before .before .join .ensures _ (L .1) (L .2) (pre .2 .out (pre .2 .queue)) .0 .ring)
 
 mul-area : tie.Need-mul-area
 mul-area c =
@@ -59,7 +59,8 @@ returns c n e j =
     let reads = c .before .before .before .before .next-field .ensures in
     let join = c .before .before .before .join in
     let L = lent-join j e reads in
-    back-join j e reads (join .last .0) (join .result) (c .with-next .result) (join .ensures _ (L .1) (L .2) (j .out (j .queue))) (c .with-next .ensures)
+    let J = join .ensures _ (L .1) (L .2) (j .out (j .queue)) in
+    (back-arrived j e _ _ (J .1), back-join j e reads (join .last .0) _ (c .with-next .result) (J .0) (c .with-next .ensures))
 
 pub put-in-spec : {M : Type 1} → statement M
 put-in-spec =

@@ -53,7 +53,7 @@ returns c n s e H stands =
     let L = c .before .before .before .before .before .before .before .before .before .before .take-out .ensures n e (move-leaves m) .done refl in
     let im = L .rings .image in
     let W = own-rest H stands v L (back-stored e im (c .before .before .before .before .before .before .set-rank .last .0) (c .before .before .before .before .before .before .set-rank .ensures n (take (recordsAt n) (c .before .before .before .before .before .before .before .before .before .before .take-out .last .0)) (L .parts) (lent-front e im) (lent-image e im) (m .process))) in
-    moved m v small refl L W (c .before .before .put-in .ensures n e (move-joins m v small refl L W))
+    moved m v small refl L W (c .before .before .put-in .ensures n e (move-joins m v small refl L W) .1)
 
 pub rank-spec : {M : Type 1} → statement M
 rank-spec =

@@ -6,12 +6,13 @@ use native.Mathlib.Omega.{arith}
 use lib.ListN.{length, length-set}
 use lib.Seq.{length-take-le}
 use borrow.Author.Needs.{needs}
+use Rattle.print.specs.Print.{longest}
 use Rattle.rehearse.proofs.feed.Statement.{statement}
 use Rattle.rehearse.proofs.feed.Tie as tie
 
 abbrev Inv-loop : tie.InvT-loop
 Inv-loop chunk line₀ fill table₀ bytes₀ area₀ out₀ at₀ full₀ i₀ line table bytes area out at full i =
-    (at ≤ length line) × ((full + 30 ≤ length out) × ((length line ≡ length line₀) × ((length table ≡ length table₀) × ((length bytes ≡ length bytes₀) × ((length area ≡ length area₀) × (length out ≡ length out₀))))))
+    (at ≤ length line) × ((full + longest ≤ length out) × ((length line ≡ length line₀) × ((length table ≡ length table₀) × ((length bytes ≡ length bytes₀) × ((length area ≡ length area₀) × (length out ≡ length out₀))))))
 
 abbrev μ-loop : tie.MeasureT-loop
 μ-loop chunk line₀ fill table₀ bytes₀ area₀ out₀ at₀ full₀ i₀ line table bytes area out at full i =

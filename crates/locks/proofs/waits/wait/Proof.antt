@@ -99,7 +99,7 @@ finish-requires-2 c κs =
     let n = c .before .before .before .before .before .before .before .before .before .before .before .before .before .before .before .before .before .before .before .before .before .before .before .args .shape in
     let pre = c .before .before .before .before .before .before .before .before .before .before .before .before .before .before .before .before .before .before .before .before .before .before .before .pre in
     let runs = c .before .before .before .before .before .before .before .before .before .before .before .before .before .before .before .before .before .before .before .get .ensures n (pre .state) running (pre .holds) (c .before .before .before .before .before .before .before .before .before .before .before .before .before .before .before .before .before .before .before .before .running .ensures n) in
-    (_, c .before .before .before .sleep .ensures _ (c .before .before .before .before .before .before .before .before .before .before .before .release .ensures (pre .state) (pre .holds) .1 .holds) (waiter-stands (pre .state) (c .before .before .before .before .before .before .before .before .before .before .before .before .before .before .before .before .before .before .before .before .before .before .before .args .lock) runs (pre .valid) (two-runs (c .before .before .before .before .before .before .before .before .before .before .before .before .before .before .before .before .before .before .calling-two .ensures) (c .before .before .before .before .before .before .before .before .before .before .before .before .before .before .before .before .before .if1 .left))) .holds)
+    (_, c .before .before .before .sleep .ensures _ (c .before .before .before .before .before .before .before .before .before .before .before .release .ensures (pre .state) (pre .holds) .1 .holds) (waiter-stands (pre .state) (c .before .before .before .before .before .before .before .before .before .before .before .before .before .before .before .before .before .before .before .before .before .before .before .args .lock) runs (pre .valid) (two-runs (c .before .before .before .before .before .before .before .before .before .before .before .before .before .before .before .before .before .before .calling-two .ensures) (c .before .before .before .before .before .before .before .before .before .before .before .before .before .before .before .before .before .if1 .left))) .1 .holds)
 
 same-length-4 : tie.Need-same-length-4
 same-length-4 c = search needs
@@ -112,7 +112,7 @@ returns-4 c s H v =
     let t = c .before .before .before .before .before .before .before .before .before .before .before .before .before .before .release .ensures s H in
     let wakes = c .before .before .before .before .before .before .before .before .before .get3 .ensures n _ (wakeup (c .before .before .before .before .before .before .before .before .before .before .before .before .before .before .before .before .before .before .before .before .before .before .before .before .before .before .args .condition)) (t .1 .holds) (c .before .before .before .before .before .before .before .before .before .before .wakeup .ensures) in
     let b = c .before .before .before .before .before .before .sleep .ensures _ (t .1 .holds) (waiter-stands s (c .before .before .before .before .before .before .before .before .before .before .before .before .before .before .before .before .before .before .before .before .before .before .before .before .before .before .args .lock) runs v (two-runs (c .before .before .before .before .before .before .before .before .before .before .before .before .before .before .before .before .before .before .before .before .before .calling-two .ensures) (c .before .before .before .before .before .before .before .before .before .before .before .before .before .before .before .before .before .before .before .before .if1 .left))) in
-    wait-sleeps H (c .before .before .before .before .before .before .before .before .before .before .before .before .before .before .before .before .before .before .before .before .before .before .before .before .before .before .args .lock) (c .before .before .before .before .before .before .before .before .before .before .before .before .before .before .before .before .before .before .before .before .before .before .before .before .before .before .args .condition) (c .before .before .before .before .before .before .before .before .before .before .before .before .before .before .before .before .before .before .before .before .before .before .before .before .before .before .args .ticks) runs (c .before .before .before .before .before .before .before .before .before .before .before .before .before .before .before .before .before .before .before .before .before .calling-two .ensures) (c .before .before .before .before .before .before .before .before .before .before .before .before .before .before .before .before .before .before .before .before .if1 .left) holds (c .before .before .before .before .before .before .before .before .before .before .before .before .before .before .before .before .if2 .left) wakes (t .0) (c .before .before .before .before .before .before .before .before .if3 .left) (becomes-then (t .1) b) (c .before .before .finish2 .ensures _ (b .holds))
+    wait-sleeps H (c .before .before .before .before .before .before .before .before .before .before .before .before .before .before .before .before .before .before .before .before .before .before .before .before .before .before .args .lock) (c .before .before .before .before .before .before .before .before .before .before .before .before .before .before .before .before .before .before .before .before .before .before .before .before .before .before .args .condition) (c .before .before .before .before .before .before .before .before .before .before .before .before .before .before .before .before .before .before .before .before .before .before .before .before .before .before .args .ticks) runs (c .before .before .before .before .before .before .before .before .before .before .before .before .before .before .before .before .before .before .before .before .before .calling-two .ensures) (c .before .before .before .before .before .before .before .before .before .before .before .before .before .before .before .before .before .before .before .before .if1 .left) holds (c .before .before .before .before .before .before .before .before .before .before .before .before .before .before .before .before .if2 .left) wakes (t .0) (c .before .before .before .before .before .before .before .before .if3 .left) (b .0) (becomes-then (t .1) (b .1)) (c .before .before .finish2 .ensures _ (b .1 .holds))
 
 pub wait-spec : {M : Type 1} → statement M
 wait-spec =
