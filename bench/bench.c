@@ -92,6 +92,12 @@ static uint8_t layered(unsigned process, unsigned processes)
     return process % 2 == 0 ? PRIORITY + 1 : PRIORITY;
 }
 
+/* Half of the others are below the last two, one of whom is to join them. */
+static uint8_t half_lower(unsigned process, unsigned processes)
+{
+    return process + 1 < processes && process % 2 == 1 ? PRIORITY - 1 : PRIORITY;
+}
+
 /* Who waits. */
 
 typedef bool waits(unsigned process, unsigned processes);
@@ -111,6 +117,11 @@ static bool everybody(unsigned process, unsigned processes)
 static bool all_but_last(unsigned process, unsigned processes)
 {
     return process != processes;
+}
+
+static bool all_but_last_two(unsigned process, unsigned processes)
+{
+    return process + 1 < processes;
 }
 
 static bool odd_but_first(unsigned process, unsigned processes)
@@ -154,7 +165,7 @@ static uint16_t any_tick(unsigned process, unsigned processes)
     return (uint16_t)(SOON + 1 + mixed(process) % 60000);
 }
 
-enum place { FIRST_CONDITION, LAST_CONDITION, EACH_CONDITION, FIRST_LOCK };
+enum place { FIRST_CONDITION, LAST_CONDITION, EACH_CONDITION, FIRST_LOCK, HOLDERS_CONDITION };
 enum order { FORWARDS, BACKWARDS };
 
 struct scene {
@@ -175,6 +186,12 @@ static const struct scene
     WAITING_SPREAD = {"waiting on 255", any, everybody, EACH_CONDITION, FORWARDS, never, MANY_CONDITIONS},
     /* the last process holds the lock for which the others queue */
     BLOCKED = {"blocked, random", any, all_but_last, FIRST_LOCK, FORWARDS, never, FEW_CONDITIONS},
+    /* the last but one runs, and is to queue with them */
+    QUEUE = {"behind all", equal, all_but_last_two, FIRST_LOCK, FORWARDS, never, FEW_CONDITIONS},
+    QUEUE_AMIDST = {"amidst", half_lower, all_but_last_two, FIRST_LOCK, FORWARDS, never, FEW_CONDITIONS},
+    /* the last process holds the lock, and is to wait where the others wait: on the first condition */
+    MONITOR = {"behind all", equal, all_but_last, HOLDERS_CONDITION, FORWARDS, never, FEW_CONDITIONS},
+    MONITOR_AMIDST = {"amidst", half_lower, all_but_last, HOLDERS_CONDITION, FORWARDS, never, FEW_CONDITIONS},
     /* everybody waits with a timer, by the order of the timers */
     TIMED_RISING = {"timers rising", equal, everybody, FIRST_CONDITION, FORWARDS, in_turn, FEW_CONDITIONS},
     TIMED_FALLING = {"timers falling", equal, everybody, FIRST_CONDITION, FORWARDS, last_first, FEW_CONDITIONS},
@@ -203,16 +220,16 @@ struct bench {
     uint16_t buffer[2 * MAX_PROCESSES];
 };
 
-/* A process that is parked runs, and waits where it is to. */
+/* A process that is parked runs, and waits where it is to: on a condition by the second lock, which is free. */
 static void lay_down(struct bench *b, const struct scene *s, unsigned process)
 {
     uint16_t ticks = s->ticks(process, b->processes);
     plain_requeue(b->scene, b->words, 1, 0, (uint16_t)process);
-    plain_enter(b->scene, b->words, 1);
+    plain_enter(b->scene, b->words, s->place == FIRST_LOCK ? 1 : 2);
     if (s->place == EACH_CONDITION)
-        plain_wait(b->scene, b->words, 1, (uint16_t)(1 + process % s->conditions), ticks);
+        plain_wait(b->scene, b->words, 2, (uint16_t)(1 + process % s->conditions), ticks);
     else if (s->place != FIRST_LOCK)
-        plain_wait(b->scene, b->words, 1, b->waited_on, ticks);
+        plain_wait(b->scene, b->words, 2, b->waited_on, ticks);
 }
 
 static void lay_all_down(struct bench *b, const struct scene *s)
@@ -239,7 +256,7 @@ static void make(struct bench *b, const struct scene *s, uint16_t processes)
     plain_start(b->scene, b->words, processes, LOCKS, s->conditions, PARKS, b->priorities, processes);
     for (unsigned process = 1; process <= processes; process++)
         plain_requeue(b->scene, b->words, 0, 1, (uint16_t)process);
-    if (s->place == FIRST_LOCK) {
+    if (s->place == FIRST_LOCK || s->place == HOLDERS_CONDITION) {
         plain_requeue(b->scene, b->words, 1, 0, processes);
         plain_enter(b->scene, b->words, 1);
         plain_requeue(b->scene, b->words, 0, 1, processes);
@@ -270,6 +287,11 @@ static uint64_t do_enter_exit(const struct calls *c, struct bench *b, uint16_t *
     return c->enter(area, b->words, 1) + c->exit(area, b->words, 1);
 }
 
+static uint64_t do_enter(const struct calls *c, struct bench *b, uint16_t *area)
+{
+    return c->enter(area, b->words, 1);
+}
+
 /* One takes the lock and goes behind its equals, and the next fails to take it. */
 static uint64_t do_enter_twice(const struct calls *c, struct bench *b, uint16_t *area)
 {
@@ -279,6 +301,11 @@ static uint64_t do_enter_twice(const struct calls *c, struct bench *b, uint16_t 
 static uint64_t do_exit(const struct calls *c, struct bench *b, uint16_t *area)
 {
     return c->exit(area, b->words, 1);
+}
+
+static uint64_t do_wait(const struct calls *c, struct bench *b, uint16_t *area)
+{
+    return c->wait(area, b->words, 1, b->waited_on, 9);
 }
 
 static uint64_t do_naked_enter_wait(const struct calls *c, struct bench *b, uint16_t *area)
@@ -367,7 +394,11 @@ static const struct row {
     {"sound", do_sound, &BLOCKED},
     {"enter, exit", do_enter_exit, &READY},
     {"enter, behind, enter", do_enter_twice, &READY},
+    {"enter, queues", do_enter, &QUEUE},
+    {"enter, queues", do_enter, &QUEUE_AMIDST},
     {"exit to the next", do_exit, &BLOCKED},
+    {"wait", do_wait, &MONITOR},
+    {"wait", do_wait, &MONITOR_AMIDST},
     {"naked, enter, wait", do_naked_enter_wait, &READY},
     {"enter, wait, notify", do_enter_wait_notify, &READY},
     {"enter, wait, notify", do_enter_wait_notify, &HALF},

@@ -47,7 +47,8 @@ fn block(area: &mut [u16], shape: Shape, lock: u16, p: u16) -> u16
 {
     area::put(area, places::failed(shape, p), 1);
     let to = area::lock_at(shape, lock);
-    moves::queue(area, shape, to, p, 0)
+    let base = area::records_at(shape);
+    moves::queue(area, base, to, p, 0)
 }
 
 pub fn enter(area: &mut [u16], shape: Shape, lock: u16) -> Answer

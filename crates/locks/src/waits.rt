@@ -46,7 +46,8 @@ fn sleep(area: &mut [u16], shape: Shape, condition: u16, p: u16, ticks: Ticks) -
     let due = alarm_at(now, t);
     area::put(area, places::timer(shape, p), due);
     let to = area::condition_at(shape, condition);
-    moves::queue(area, shape, to, p, 1)
+    let base = area::records_at(shape);
+    moves::queue(area, base, to, p, 1)
 }
 
 pub fn wait(area: &mut [u16], shape: Shape, lock: u16, condition: u16, ticks: Ticks) -> Answer

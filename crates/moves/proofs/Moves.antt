@@ -4,18 +4,18 @@
 use Prim.Native.Nat.{ℕ, _<_}
 use native.Mathlib.Omega.{arith}
 use mathlib.Core.Path.{_≡_, refl, sym, ap, _∙_, subst, fun-ext}
-use mathlib.Core.Bool.{true, false, not}
+use mathlib.Core.Bool.{true, false}
 use mathlib.Core.Logic.{_≢_}
 use mathlib.Core.List.{List, [], _∷_}
 use Rattle.model.specs.declared.Shape.{Shape}
 use Rattle.model.specs.Queue.{Queue, inside, exists, bit, member, count, remove, insert, move, Falling, isCondition}
-use Rattle.model.specs.Field.{Field, Fields, put, some, priorities}
+use Rattle.model.specs.Field.{Field, Fields, put, priorities}
 use Rattle.model.specs.Queue.Queue.{ready}
 use Rattle.model.specs.Field.Field.{priority}
 use Rattle.model.specs.Machine.{State, model}
 use Rattle.model.specs.Valid.{room, Placed}
-use Rattle.model.proofs.Tests.{holds, fails, SameCase, same-case, same-yes, EqCase, eqb-case, eqb-yes, eqb-no, PutCase, put-case, put-away, bit-small, denied}
-use Rattle.model.proofs.Lists.{SameOff, falling-remove, falling-insert, remove-absent, remove-member, insert-member, absent-count, counted-member, count-insert, count-remove-same, member-bit}
+use Rattle.model.proofs.Tests.{holds, fails, SameCase, same-case, same-yes, EqCase, eqb-case, PutCase, put-case, put-away, bit-small, denied}
+use Rattle.model.proofs.Lists.{SameOff, falling-remove, falling-insert, remove-absent, remove-member, insert-member, absent-count, count-remove-same, member-bit}
 use Rattle.model.proofs.Places as places
 use Rattle.model.proofs.Places.{stands-move, falling-moves}
 use Rattle.model.proofs.Simulation.{lead}
@@ -29,8 +29,6 @@ use Rattle.ring.specs.Ring.{Arrived}
 use Rattle.area.specs.Loose.{Loose}
 use Rattle.area.proofs.Stores.{alter-here, alter-own}
 use Rattle.area.proofs.Rings.{one-queue}
-use Rattle.area.proofs.Records.{queue-ring}
-use Rattle.ring.proofs.Rings.{ring-member}
 use Rattle.moves.proofs.Loose.{loose-of, loose-relinked, loose-put, settled}
 use Rattle.moves.proofs.Shared.{put-own, going}
 
@@ -196,18 +194,6 @@ module _ {n : Shape} {ws : List ℕ} {at-from at-to p waits : ℕ} (m : Moves n 
   pub arrived-own : {t k : ℕ} → Arrived p (sent p (m .to) (with (priority p) own-rank (m .state)) .queues (m .to)) t k → Arrived p (sent p (m .to) (m .state) .queues (m .to)) t k
   arrived-own {t} {k} A =
       subst (λ (f : Fields). Arrived p (move (priorities f) (m .state .queues) p (m .to) (m .to)) t k) (put-own (priority p) (m .state .fields)) A
-
-  -- the tail is some process: p stands there
-  pub arrived-some : {new : List ℕ} {t k : ℕ} → Becomes n ws new (sent p (m .to) (m .state)) → Arrived p (sent p (m .to) (m .state) .queues (m .to)) t k → some t ≡ true
-  arrived-some {t = t} b A = ap not (eqb-no t 0 (λ z. ring-member p (sent p (m .to) (m .state) .queues (m .to)) (queue-ring (b .holds) (m .to) (m .given-to)) there (A .ends ∙ z)))
-    where
-      rest : List ℕ
-      rest = remove p (m .state .queues (m .to))
-
-      there : member p (sent p (m .to) (m .state) .queues (m .to)) ≡ true
-      there =
-          rw (same-yes (m .to) (m .to) refl)
-          (counted-member p (insert (priorities (m .state .fields)) p rest) (rw (count-insert (priorities (m .state .fields)) p p rest, eqb-yes p p refl) (omega arith)))
 
 -- ---- in ready, with another
 

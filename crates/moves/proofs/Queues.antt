@@ -1,5 +1,5 @@
 -- The queues of an area: one read from its tail and the records; its first; and dispatch over ready. Assumes nothing.
-use Prim.Native.Nat.{ℕ, _+_, _-_, _/_, _%_, _≤_}
+use Prim.Native.Nat.{ℕ, _-_, _/_, _%_, _≤_}
 use native.Mathlib.Omega.{arith}
 use borrow.Rule.Slice.PartMut.{midOf}
 use mathlib.Core.Path.{_≡_, refl, sym, ap, _∙_, subst}
@@ -8,19 +8,17 @@ use mathlib.Core.Logic.{_≢_}
 use mathlib.Core.List.{List, [], _∷_}
 use lib.ListN.{length, getD}
 use Rattle.model.specs.declared.Shape.{Shape}
-use Rattle.model.specs.Queue.{Queue, inside, exists, first, aheadOf}
+use Rattle.model.specs.Queue.{Queue, inside, exists, first}
 use Rattle.model.specs.Queue.Queue.{ready}
 use Rattle.model.specs.Field.{Fields, put}
 use Rattle.model.specs.Field.Field.{running, failed}
 use Rattle.model.specs.Machine.{State, model, retry}
 use Rattle.model.proofs.Tests.{EqCase, holds, fails, eqb-case, eqb-yes, inside-bounds}
 use Rattle.ring.specs.Ring.{Ring}
-use Rattle.ring.proofs.Rings.{ring-ahead}
 use Rattle.area.specs.Layout.{recordsAt, at}
 use Rattle.area.specs.Layout.Part.{tail}
 use Rattle.area.specs.Layout.Slot.{Tail}
 use Rattle.area.specs.State.{last, laid}
-use Rattle.area.specs.Rings.{records}
 use Rattle.area.specs.Holds.{Holds, Becomes, with, dispatched}
 use Rattle.area.proofs.Stores.{load-at}
 use Rattle.area.proofs.Rings.{member-inside}
@@ -29,14 +27,13 @@ use Rattle.moves.proofs.Shared.{put-own}
 
 -- ---- a read
 
--- a queue, from its tail and the records
-pub read-queue : {n : Shape} {ws : List ℕ} {s : State model} → Holds n ws s → (q : Queue) {i a w : ℕ} → exists n q ≡ true → i ≡ at n (Tail q) → a ≡ recordsAt n → w ≡ getD ws i 0 / 8 % 1024 → Ring (midOf a (length ws - a) ws) w (s .queues q)
-read-queue {n} {ws} {s} H q {i} {a} ok here records reads =
-    rw (part-lent a ws, records, reads ∙ load-at n ws (laid n s) (H .image) (tail q) i ok here 8 1024 refl refl) (queue-ring H q ok)
+-- a queue, from its last and the records
+pub lent-queue : {n : Shape} {ws : List ℕ} {s : State model} → Holds n ws s → (q : Queue) {a p : ℕ} → exists n q ≡ true → a ≡ recordsAt n → last (s .queues q) ≡ p → Ring (midOf a (length ws - a) ws) p (s .queues q)
+lent-queue {n} {ws} {s} H q {a} {p} ok records e = rw (part-lent a ws, records, ← e) (queue-ring H q ok)
 
--- all others of a queue are ahead of its last
-pub last-ahead : {n : Shape} {ws : List ℕ} {s : State model} → Holds n ws s → (q : Queue) {p : ℕ} → exists n q ≡ true → last (s .queues q) ≡ p → p ≢ 0 → length (aheadOf p (s .queues q)) + 1 ≡ length (s .queues q)
-last-ahead {n} {ws} {s} H q ok e z = ring-ahead (s .queues q) (subst (λ (t : ℕ). Ring (records n ws) t (s .queues q)) e (queue-ring H q ok)) z
+-- and from its tail's word
+pub read-queue : {n : Shape} {ws : List ℕ} {s : State model} → Holds n ws s → (q : Queue) {i a w : ℕ} → exists n q ≡ true → i ≡ at n (Tail q) → a ≡ recordsAt n → w ≡ getD ws i 0 / 8 % 1024 → Ring (midOf a (length ws - a) ws) w (s .queues q)
+read-queue {n} {ws} {s} H q {i} ok here records reads = lent-queue H q ok records (sym (reads ∙ load-at n ws (laid n s) (H .image) (tail q) i ok here 8 1024 refl refl))
 
 -- ---- dispatch
 

@@ -6,12 +6,8 @@ use mathlib.Core.List.{List}
 use Rattle.area.specs.Holds.{Tried}
 
 module _ {b : Bool} {old new : List ℕ} {A : Type 0} where
-  pub did : {r : Bool} → r ≡ true → b ≡ true → A → Tried b r old new A
-  did r e a = record { told = r ∙ sym e; done = λ k. a; kept = λ k. absurd (true≢false (sym e ∙ k)) }
+  pub did : b ≡ true → A → Tried b true old new A
+  did e a = record { told = sym e; done = λ k. a; kept = λ k. absurd (true≢false (sym e ∙ k)) }
 
   pub did-not : b ≡ false → new ≡ old → Tried b false old new A
   did-not e same = record { told = sym e; done = λ k. absurd (false≢true (sym e ∙ k)); kept = λ k. same }
-
--- the second of two things that were done
-pub did-second : {b r : Bool} {old new : List ℕ} {A B : Type 0} → Tried b r old new (A × B) → Tried b r old new B
-did-second t = record { told = t .told; done = λ k. t .done k .1; kept = t .kept }

@@ -10,7 +10,6 @@ ghost use lib.ListN.{length, drop};
 ghost use Rattle.model.specs.declared.Shape.{Shape};
 ghost use Rattle.model.specs.Queue.{Queue, exists, member, aheadOf, remove, insert, first};
 ghost use Rattle.model.specs.Queue.Queue.{ready};
-ghost use Rattle.model.specs.Field.{some};
 ghost use Rattle.model.specs.Field.Field.{priority};
 ghost use Rattle.model.specs.Machine.{State, model, retry};
 ghost use Rattle.ring.specs.Ring.{Arrived};
@@ -89,37 +88,30 @@ fn put_in(area: &mut [u16], base: usize, i: usize, p: u16) -> Arrival
     arrival
 }
 
-// p moves from the queue whose tail stands at `from`, if it stands there, to the one whose tail stands at `to`; waits is 1 if that is a condition. Tail 0 says that it does not stand there.
-fn transfer(area: &mut [u16], base: usize, from: usize, to: usize, p: u16, waits: u16) -> Arrival
-    requires { ⌜ ((n : Shape) × (base ≡ recordsAt n) × Moves n (now area) from to p waits) ⌝ }
-    ensures { λ r. ⌜ ((n : Shape) → base ≡ recordsAt n → (m : Moves n (now (area .entry)) from to p waits) → Tried (m .stood) (some (r .tail)) (now (area .entry)) (now (area .exit)) (Arrived p (sent p (m .to) (m .state) .queues (m .to)) (r .tail) (r .ahead) × Becomes n (now (area .entry)) (now (area .exit)) (sent p (m .to) (m .state)))) ⌝ }
-{
-    if !take_out(area, base, from, p) {
-        return Arrival { tail: 0, ahead: 0 };
-    }
-    area::set_waiting(&mut area[base..], p, waits);
-    put_in(area, base, to, p)
-}
-
-// The same move, where nobody asks how many are ahead. Whether p stands where it is to leave.
+// p moves from the queue whose tail stands at `from`, if it stands there, to the one whose tail stands at `to`; waits is 1 if that is a condition. Whether it does.
 pub fn send(area: &mut [u16], base: usize, from: usize, to: usize, p: u16, waits: u16) -> bool
     requires { ⌜ ((n : Shape) × (base ≡ recordsAt n) × Moves n (now area) from to p waits) ⌝ }
     ensures { λ r. ⌜ ((n : Shape) → base ≡ recordsAt n → (m : Moves n (now (area .entry)) from to p waits) → Tried (m .stood) r (now (area .entry)) (now (area .exit)) (Becomes n (now (area .entry)) (now (area .exit)) (sent p (m .to) (m .state)))) ⌝ }
 {
-    let arrival = transfer(area, base, from, to, p, waits);
-    arrival.tail != 0
+    if !take_out(area, base, from, p) {
+        return false;
+    }
+    area::set_waiting(&mut area[base..], p, waits);
+    put_in(area, base, to, p);
+    true
 }
 
 // p, which stands in ready, moves to the lock or the condition whose tail stands at `to`; waits is 1 if that is a condition. How many are ahead of it there, counted on the one walk: to its place or, where it is the last, along the queue.
-pub fn queue(area: &mut [u16], shape: Shape, to: usize, p: u16, waits: u16) -> u16
-    requires { ⌜ ((m : Moves shape (now area) (at shape (Tail ready)) to p waits) × (m .stood ≡ true)) ⌝ }
-    ensures { λ r. ⌜ ((m : Moves shape (now (area .entry)) (at shape (Tail ready)) to p waits) → m .stood ≡ true → (r ≡ length (aheadOf p (sent p (m .to) (m .state) .queues (m .to)))) × Becomes shape (now (area .entry)) (now (area .exit)) (sent p (m .to) (m .state))) ⌝ }
+pub fn queue(area: &mut [u16], base: usize, to: usize, p: u16, waits: u16) -> u16
+    requires { ⌜ ((n : Shape) × (base ≡ recordsAt n) × (m : Moves n (now area) (at n (Tail ready)) to p waits) × (m .stood ≡ true)) ⌝ }
+    ensures { λ r. ⌜ ((n : Shape) → base ≡ recordsAt n → (m : Moves n (now (area .entry)) (at n (Tail ready)) to p waits) → m .stood ≡ true → (r ≡ length (aheadOf p (sent p (m .to) (m .state) .queues (m .to)))) × Becomes n (now (area .entry)) (now (area .exit)) (sent p (m .to) (m .state))) ⌝ }
 {
     let from = area::ready_at();
-    let base = area::records_at(shape);
-    let arrival = transfer(area, base, from, to, p, waits);
+    take_out(area, base, from, p);
+    area::set_waiting(&mut area[base..], p, waits);
+    let arrival = put_in(area, base, to, p);
     if arrival.tail == p {
-        let all = count_in(area, shape, to);
+        let all = ring::length_of(&area[base..], p);
         return all - 1;
     }
     arrival.ahead

@@ -22,23 +22,26 @@ put-requires c κs =
 lock-at-requires : tie.Need-lock-at-requires
 lock-at-requires c κs = search needs
 
+records-at-requires : tie.Need-records-at-requires
+records-at-requires c κs = search needs
+
 queue-requires : tie.Need-queue-requires
 queue-requires c κs =
-    let n = c .before .before .before .before .before .before .before .before .args .shape in
-    let t = c .before .before .before .before .before .before .before .before .pre .0 in
-    let L = c .before .before .before .before .before .failed .ensures in
-    let b = c .before .before .before .before .put .ensures n (t .0) (failed (c .before .before .before .before .before .before .before .before .args .p)) (t .1) (taking (failed (c .before .before .before .before .before .before .before .before .args .p)) L refl (rw (L .0) (omega arith))) in
-    (going (b .holds) ready (lock (c .before .before .before .before .before .before .before .before .args .lock)) refl (c .before .before .before .before .before .before .before .before .pre .1) refl (c .before .lock-at .ensures) (t .2) refl, refl)
+    let n = c .before .before .before .before .before .before .before .before .before .args .shape in
+    let t = c .before .before .before .before .before .before .before .before .before .pre .0 in
+    let L = c .before .before .before .before .before .before .failed .ensures in
+    let b = c .before .before .before .before .before .put .ensures n (t .0) (failed (c .before .before .before .before .before .before .before .before .before .args .p)) (t .1) (taking (failed (c .before .before .before .before .before .before .before .before .before .args .p)) L refl (rw (L .0) (omega arith))) in
+    (n, c .before .records-at .ensures, going (b .holds) ready (lock (c .before .before .before .before .before .before .before .before .before .args .lock)) refl (c .before .before .before .before .before .before .before .before .before .pre .1) refl (c .before .before .lock-at .ensures) (t .2) refl, refl)
 
 same-length : tie.Need-same-length
 same-length c = search needs
 
 returns : tie.Need-returns
 returns c s H m =
-    let n = c .before .before .before .before .before .before .before .before .before .before .before .args .shape in
-    let L = c .before .before .before .before .before .before .before .before .failed .ensures in
-    let b = c .before .before .before .before .before .before .before .put .ensures n s (failed (c .before .before .before .before .before .before .before .before .before .before .before .args .p)) H (taking (failed (c .before .before .before .before .before .before .before .before .before .before .before .args .p)) L refl (rw (L .0) (omega arith))) in
-    let q = c .before .before .queue .ensures (going (b .holds) ready (lock (c .before .before .before .before .before .before .before .before .before .before .before .args .lock)) refl (c .before .before .before .before .before .before .before .before .before .before .before .pre .1) refl (c .before .before .before .before .lock-at .ensures) m refl) refl in
+    let n = c .before .before .before .before .before .before .before .before .before .before .before .before .args .shape in
+    let L = c .before .before .before .before .before .before .before .before .before .failed .ensures in
+    let b = c .before .before .before .before .before .before .before .before .put .ensures n s (failed (c .before .before .before .before .before .before .before .before .before .before .before .before .args .p)) H (taking (failed (c .before .before .before .before .before .before .before .before .before .before .before .before .args .p)) L refl (rw (L .0) (omega arith))) in
+    let q = c .before .before .queue .ensures n (c .before .before .before .before .records-at .ensures) (going (b .holds) ready (lock (c .before .before .before .before .before .before .before .before .before .before .before .before .args .lock)) refl (c .before .before .before .before .before .before .before .before .before .before .before .before .pre .1) refl (c .before .before .before .before .before .lock-at .ensures) m refl) refl in
     (q .0, becomes-then b (q .1))
 
 pub block-spec : {M : Type 1} → statement M
@@ -48,6 +51,7 @@ block-spec =
     failed-requires
     put-requires
     lock-at-requires
+    records-at-requires
     queue-requires
     same-length
     returns)

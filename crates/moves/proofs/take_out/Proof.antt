@@ -71,7 +71,7 @@ returns-2 c n e j =
     let leave = c .before .before .before .leave in
     let R = leaves-ring j _ _ e (next-field .ensures) in
     let b = before-some (next-field .result) (c .before .before .before .before .before .before .before .before .before .before .before .before .args .p) (j .queues (j .queue)) (c .before .before .before .before .before .before .before2 .ensures _ R) (c .before .before .before .before .before .if1 .left) in
-    did refl (sym (j .stands) ∙ b .0) (left-stays j (c .before .before .before .before .before .before .before .before .before .before .before .before .args .base) (next-field .result) e (next-field .ensures) (b .0) (leave .last .0) (leave .result) (leave .ensures _ R (b .0) (b .1)) (c .if2 .taken))
+    did (sym (j .stands) ∙ b .0) (left-stays j (c .before .before .before .before .before .before .before .before .before .before .before .before .args .base) (next-field .result) e (next-field .ensures) (b .0) (leave .last .0) (leave .result) (leave .ensures _ R (b .0) (b .1)) (c .if2 .taken))
 
 with-next-requires : tie.Need-with-next-requires
 with-next-requires c κs =
@@ -104,7 +104,7 @@ returns-3 c n e j =
     let leave = c .before .before .before .before .leave in
     let R = leaves-ring j _ _ e (next-field .ensures) in
     let b = before-some (next-field .result) (c .before .before .before .before .before .before .before .before .before .before .before .before .before .args .p) (j .queues (j .queue)) (c .before .before .before .before .before .before .before .before2 .ensures _ R) (c .before .before .before .before .before .before .if1 .left) in
-    did refl (sym (j .stands) ∙ b .0)
+    did (sym (j .stands) ∙ b .0)
     (left-relinks j (c .before .before .before .before .before .before .before .before .before .before .before .before .before .args .base) (next-field .result) e (next-field .ensures) (b .0) (leave .last .0) (leave .result) (c .with-next .result) (leave .ensures _ R (b .0) (b .1)) (c .with-next .ensures))
 
 pub take-out-spec : {M : Type 1} → statement M

@@ -32,26 +32,29 @@ put-requires c κs =
 condition-at-requires : tie.Need-condition-at-requires
 condition-at-requires c κs = search needs
 
+records-at-requires : tie.Need-records-at-requires
+records-at-requires c κs = search needs
+
 queue-requires : tie.Need-queue-requires
 queue-requires c κs =
-    let n = c .before .before .before .before .before .before .before .before .before .before .before .before .args .shape in
-    let t = c .before .before .before .before .before .before .before .before .before .before .before .before .pre .0 in
-    let L = c .before .before .before .before .before .timer .ensures in
-    let b = c .before .before .before .before .put .ensures n (t .0) (timer (c .before .before .before .before .before .before .before .before .before .before .before .before .args .p)) (t .1) (taking (timer (c .before .before .before .before .before .before .before .before .before .before .before .before .args .p)) L refl (rw (L .0) (omega arith))) in
-    (going (b .holds) ready (condition (c .before .before .before .before .before .before .before .before .before .before .before .before .args .condition)) refl (c .before .before .before .before .before .before .before .before .before .before .before .before .pre .1) refl (c .before .condition-at .ensures) (t .2) refl, refl)
+    let n = c .before .before .before .before .before .before .before .before .before .before .before .before .before .args .shape in
+    let t = c .before .before .before .before .before .before .before .before .before .before .before .before .before .pre .0 in
+    let L = c .before .before .before .before .before .before .timer .ensures in
+    let b = c .before .before .before .before .before .put .ensures n (t .0) (timer (c .before .before .before .before .before .before .before .before .before .before .before .before .before .args .p)) (t .1) (taking (timer (c .before .before .before .before .before .before .before .before .before .before .before .before .before .args .p)) L refl (rw (L .0) (omega arith))) in
+    (n, c .before .records-at .ensures, going (b .holds) ready (condition (c .before .before .before .before .before .before .before .before .before .before .before .before .before .args .condition)) refl (c .before .before .before .before .before .before .before .before .before .before .before .before .before .pre .1) refl (c .before .before .condition-at .ensures) (t .2) refl, refl)
 
 same-length : tie.Need-same-length
 same-length c = search needs
 
 returns : tie.Need-returns
 returns c s H m =
-    let u = c .before .before .before .before .before .before .before .before .before .before .before .before .before .before .before .args in
+    let u = c .before .before .before .before .before .before .before .before .before .before .before .before .before .before .before .before .args in
     let n = u .shape in
-    let L = c .before .before .before .before .before .before .before .before .timer .ensures in
-    let now = c .before .before .before .before .before .before .before .before .before .before .before .get .ensures n s clock H (c .before .before .before .before .before .before .before .before .before .before .before .before .clock .ensures n) in
-    let b = c .before .before .before .before .before .before .before .put .ensures n s (timer (u .p)) H (taking (timer (u .p)) L refl (rw (L .0) (omega arith))) in
-    let q = c .before .before .queue .ensures (going (b .holds) ready (condition (u .condition)) refl (c .before .before .before .before .before .before .before .before .before .before .before .before .before .before .before .pre .1) refl (c .before .before .before .before .condition-at .ensures) m refl) refl in
-    (q .0, sleeps s (u .p) (u .condition) (u .ticks .0) now (c .before .before .before .before .before .before .before .before .before .before .alarm-at .ensures) (becomes-then b (q .1)))
+    let L = c .before .before .before .before .before .before .before .before .before .timer .ensures in
+    let now = c .before .before .before .before .before .before .before .before .before .before .before .before .get .ensures n s clock H (c .before .before .before .before .before .before .before .before .before .before .before .before .before .clock .ensures n) in
+    let b = c .before .before .before .before .before .before .before .before .put .ensures n s (timer (u .p)) H (taking (timer (u .p)) L refl (rw (L .0) (omega arith))) in
+    let q = c .before .before .queue .ensures n (c .before .before .before .before .records-at .ensures) (going (b .holds) ready (condition (u .condition)) refl (c .before .before .before .before .before .before .before .before .before .before .before .before .before .before .before .before .pre .1) refl (c .before .before .before .before .before .condition-at .ensures) m refl) refl in
+    (q .0, sleeps s (u .p) (u .condition) (u .ticks .0) now (c .before .before .before .before .before .before .before .before .before .before .before .alarm-at .ensures) (becomes-then b (q .1)))
 
 pub sleep-spec : {M : Type 1} → statement M
 sleep-spec =
@@ -63,6 +66,7 @@ sleep-spec =
     timer-requires
     put-requires
     condition-at-requires
+    records-at-requires
     queue-requires
     same-length
     returns)
