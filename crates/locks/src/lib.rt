@@ -35,7 +35,7 @@ fn release(area: &mut [u16], shape: Shape, lock: u16) -> u16
     }
     let to = area::ready_at();
     let base = area::records_at(shape);
-    moves::send(area, base, from, to, first, 0);
+    moves::send(area, base, from, to, first);
     1
 }
 

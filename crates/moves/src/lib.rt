@@ -88,15 +88,15 @@ fn put_in(area: &mut [u16], base: usize, i: usize, p: u16) -> Arrival
     arrival
 }
 
-// p moves from the queue whose tail stands at `from`, if it stands there, to the one whose tail stands at `to`; waits is 1 if that is a condition. Whether it does.
-pub fn send(area: &mut [u16], base: usize, from: usize, to: usize, p: u16, waits: u16) -> bool
-    requires { ⌜ ((n : Shape) × (base ≡ recordsAt n) × Moves n (now area) from to p waits) ⌝ }
-    ensures { λ r. ⌜ ((n : Shape) → base ≡ recordsAt n → (m : Moves n (now (area .entry)) from to p waits) → Tried (m .stood) r (now (area .entry)) (now (area .exit)) (Becomes n (now (area .entry)) (now (area .exit)) (sent p (m .to) (m .state)))) ⌝ }
+// p moves from the queue whose tail stands at `from`, if it stands there, to ready or a park, whose tail stands at `to`. Whether it does.
+pub fn send(area: &mut [u16], base: usize, from: usize, to: usize, p: u16) -> bool
+    requires { ⌜ ((n : Shape) × (base ≡ recordsAt n) × Moves n (now area) from to p 0) ⌝ }
+    ensures { λ r. ⌜ ((n : Shape) → base ≡ recordsAt n → (m : Moves n (now (area .entry)) from to p 0) → Tried (m .stood) r (now (area .entry)) (now (area .exit)) (Becomes n (now (area .entry)) (now (area .exit)) (sent p (m .to) (m .state)))) ⌝ }
 {
     if !take_out(area, base, from, p) {
         return false;
     }
-    area::set_waiting(&mut area[base..], p, waits);
+    area::set_waiting(&mut area[base..], p, 0);
     put_in(area, base, to, p);
     true
 }

@@ -60,7 +60,7 @@ pub fn requeue(
     let from = area::park_at(source);
     let to = area::park_at(destination);
     let base = area::records_at(shape);
-    if !moves::send(area, base, from, to, p, 0) {
+    if !moves::send(area, base, from, to, p) {
         return answers::refusal(10);
     }
     answers::finish(area, shape, 0, arrives(source, destination), 0)

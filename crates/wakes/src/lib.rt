@@ -35,7 +35,7 @@ fn wake_first(area: &mut [u16], shape: Shape, condition: u16) -> u16
     }
     let to = area::ready_at();
     let base = area::records_at(shape);
-    moves::send(area, base, from, to, first, 0);
+    moves::send(area, base, from, to, first);
     area::put(area, places::timer(shape, first), 0);
     1
 }
