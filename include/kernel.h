@@ -46,8 +46,8 @@ extern "C" {
 #define KERNEL_AHEAD(a) ((unsigned)((a) >> 50 & 1023u))     /* how many stand before the caller in the queue that it joined; else 0 */
 
 /* The last is told by kernel_enter when it queues and by kernel_wait when it waits, and by nothing else. So a task learns in the same call
- * how long the queue is. It cannot leave the queue, but it can decide to skip a reading that would come too late: it keeps this in its
- * state, and when it has the lock at last it gives it up again at once. examples/probe.c has such a task. */
+ * how long the queue is. It stays there until its turn comes, but it can decide to skip a reading that would come too late: it keeps
+ * this in its state, and when it runs again it goes on without. examples/probe.c has such a task. */
 
 /* kernel_list answers two: the code, and */
 #define KERNEL_COUNT(a) ((unsigned)((a) >> 10 & 1023u))     /* how many processes were written */
