@@ -13,11 +13,11 @@ use Rattle.area.specs.Sound.{Sound}
 use Rattle.area.proofs.Agreeing.{agree-back, sound-same}
 use Rattle.start.specs.Start.{Starts}
 use Rattle.monitor.specs.Calls.{Performs, ListsOn, TellsOn, NearestOn}
-use Rattle.monitor.specs.Wire.{packed, answerOf, listedOf, dueOf, nearestOf}
+use Rattle.wire.specs.Wire.{packed, answerOf, listedOf, dueOf, nearestOf}
 use Rattle.monitor.specs.History.{Run}
 use Rattle.monitor.specs.History.Run.{none, then}
 use Rattle.monitor.proofs.History.{run-ends}
-use Rattle.monitor.proofs.Wire.{read-answer, read-listed, read-due, read-nearest}
+use Rattle.wire.proofs.Wire.{read-answer, read-listed, read-due, read-nearest}
 use Rattle.monitor.proofs.Promises.{performs-spares, starts-spares, performs-keeps, starts-keeps, performs-alike, starts-alike}
 use Rattle.monitor.proofs.Readings.{lists-spares, lists-alike, tells-spares, tells-alike, nearest-spares, nearest-alike}
 use Rattle.kernel.specs.Exports.{Conveys, Crosses, Begins, Writes, Dues, Nears, Judges}

@@ -3,7 +3,7 @@
 use Prim.Native.Nat.{ℕ}
 use mathlib.Core.List.{List, map}
 use Rattle.monitor.specs.Calls.{Performs}
-use Rattle.monitor.specs.Wire.{answerOf}
+use Rattle.wire.specs.Wire.{answerOf}
 use Rattle.monitor.specs.Ticks.{WakesIn, Still}
 use Rattle.monitor.proofs.Ticks.{told-wakes, nearest-wakes, still-before, still-ever}
 use Rattle.kernel.specs.Exports.{Crosses}

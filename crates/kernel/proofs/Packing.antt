@@ -14,8 +14,8 @@ use Rattle.queues.specs.declared.listing.Listed.{Listed}
 use Rattle.timers.specs.declared.Told.{Told}
 use Rattle.timers.specs.declared.Earliest.{Earliest}
 use Rattle.monitor.specs.Calls.{Performs, ListsOn, TellsOn, NearestOn}
-use Rattle.monitor.specs.Wire.{packed, Carries, listFields, dueFields, nearestFields, numberOf}
-use Rattle.monitor.proofs.Wire.{Fit, carries}
+use Rattle.wire.specs.Wire.{packed, Carries, listFields, dueFields, nearestFields, numberOf}
+use Rattle.wire.proofs.Wire.{Fit, carries}
 use Rattle.monitor.proofs.Promises.{performs-fits, starts-fits}
 use Rattle.monitor.proofs.Readings.{lists-fits, tells-fits, nearest-fits}
 use Rattle.kernel.specs.Exports.{Conveys, Crosses, Begins, Writes, Dues, Nears, Judges}

@@ -16,7 +16,7 @@ use Rattle.start.specs.Start.{Starts}
 use Rattle.queues.specs.Listing.{Unlisted}
 use Rattle.timers.specs.Telling.{Untold}
 use Rattle.monitor.specs.Calls.{Performs, ListsOn, TellsOn, NearestOn, Spares}
-use Rattle.monitor.specs.Wire.{answerOf, listedOf, dueOf, nearestOf}
+use Rattle.wire.specs.Wire.{answerOf, listedOf, dueOf, nearestOf}
 use Rattle.monitor.specs.History as history
 use Rattle.monitor.specs.Ticks.{WakesIn, Still}
 use Rattle.kernel.specs.Exports.{Crosses, Begins, Writes, Dues, Nears, Judges}

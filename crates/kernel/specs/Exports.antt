@@ -9,7 +9,7 @@ use Rattle.model.specs.Machine.{fieldsOf}
 use Rattle.area.specs.Sound.{Sound}
 use Rattle.start.specs.Start.{Starts}
 use Rattle.monitor.specs.Calls.{Performs, ListsOn, TellsOn, NearestOn}
-use Rattle.monitor.specs.Wire.{Carries, listFields, dueFields, nearestFields}
+use Rattle.wire.specs.Wire.{Carries, listFields, dueFields, nearestFields}
 
 -- r carries an answer as promised: it is the number of the answer's fields, w bits each, and every field comes back out of it
 pub record Conveys {A : Type 0} (w : ℕ) (fields : A → List ℕ) (promised : A → Type 0) (r : ℕ) : Type 0 where

@@ -10,7 +10,7 @@ ghost use Rattle.model.specs.declared.Call.{Call};
 ghost use Rattle.model.specs.declared.Call.the-variants.{Enter, Exit, Wait, Notify, Broadcast, Naked, Requeue, SetPriority, Tick};
 ghost use Rattle.model.specs.Machine.{fieldsOf};
 ghost use Rattle.monitor.specs.Calls.{Performs};
-ghost use Rattle.monitor.specs.Wire.{Carries};
+ghost use Rattle.wire.specs.Wire.{Carries};
 ghost use Rattle.kernel.specs.Exports.{Crosses, Begins, Judges, Writes, Dues, Nears};
 
 // ---- Start and Sound
@@ -32,7 +32,7 @@ pub extern "C" fn kernel_start(
         conditions: conditions,
         parks: parks,
     };
-    monitor::pack(start::start(area, shape, priorities))
+    wire::pack(start::start(area, shape, priorities))
 }
 
 #[no_mangle]
@@ -52,7 +52,7 @@ fn cross(a: Answer) -> u64
     requires { ⌜ ((c : Call) × (old : List ℕ) × (new : List ℕ) × Performs c old new a) ⌝ }
     ensures { λ r. ⌜ Carries 10 r (fieldsOf a) ⌝ }
 {
-    monitor::pack(a)
+    wire::pack(a)
 }
 
 #[no_mangle]
@@ -129,19 +129,19 @@ pub extern "C" fn kernel_tick(area: &mut [u16]) -> u64
 pub extern "C" fn kernel_list(area: &[u16], kind: u16, number: u16, buffer: &mut [u16]) -> u64
     ensures { λ r. ⌜ Writes kind number (now (area .entry)) (now (buffer .entry)) (now (buffer .exit)) r ⌝ }
 {
-    monitor::pack_list(monitor::list(area, kind, number, buffer))
+    wire::pack_list(monitor::list(area, kind, number, buffer))
 }
 
 #[no_mangle]
 pub extern "C" fn kernel_due(area: &[u16], ticks: u16, buffer: &mut [u16]) -> u64
     ensures { λ r. ⌜ Dues ticks (now (area .entry)) (now (buffer .entry)) (now (buffer .exit)) r ⌝ }
 {
-    monitor::pack_due(monitor::due(area, Ticks(ticks), buffer))
+    wire::pack_due(monitor::due(area, Ticks(ticks), buffer))
 }
 
 #[no_mangle]
 pub extern "C" fn kernel_nearest(area: &[u16]) -> u64
     ensures { λ r. ⌜ Nears (now (area .entry)) r ⌝ }
 {
-    monitor::pack_nearest(monitor::nearest(area))
+    wire::pack_nearest(monitor::nearest(area))
 }

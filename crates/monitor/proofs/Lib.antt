@@ -1,5 +1,4 @@
 pub mod Performs
-pub mod Wire
 pub mod History
 pub mod Promises
 pub mod Readings

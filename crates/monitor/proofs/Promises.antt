@@ -27,7 +27,7 @@ use Rattle.area.proofs.States.{sound-write}
 use Rattle.area.proofs.Agreeing.{shape-same, state-same, agree-back, sound-same}
 use Rattle.start.specs.Start.{startOn, Starts}
 use Rattle.monitor.specs.Calls.{Performs, Spares}
-use Rattle.monitor.proofs.Wire.{Fit, answerFrom}
+use Rattle.wire.proofs.Wire.{Fit, answerFrom}
 use Rattle.monitor.proofs.History.{start-accepted}
 
 -- ---- by cases on soundness, where what is to be shown can be decided

@@ -28,8 +28,8 @@ use Rattle.timers.specs.declared.Earliest.{Earliest}
 use Rattle.timers.specs.Telling.{inWords, Untold, Tells, nearestIn}
 use Rattle.timers.proofs.Dues.{count-all, due-few}
 use Rattle.monitor.specs.Calls.{ListsOn, TellsOn, NearestOn}
-use Rattle.monitor.specs.Wire.{listFields, dueFields, nearestFields}
-use Rattle.monitor.proofs.Wire.{Fit, listedFrom, toldFrom, earliestFrom}
+use Rattle.wire.specs.Wire.{listFields, dueFields, nearestFields}
+use Rattle.wire.proofs.Wire.{Fit, listedFrom, toldFrom, earliestFrom}
 use Rattle.monitor.proofs.Promises.{settle, lists?, unsound-same, fit?}
 
 -- ---- how much is told

@@ -1,4 +1,3 @@
 pub mod Calls
 pub mod History
 pub mod Ticks
-pub mod Wire

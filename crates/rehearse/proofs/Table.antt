@@ -35,7 +35,7 @@ use Rattle.start.specs.Start.{startOn}
 use Rattle.monitor.specs.Calls.{Performs}
 use Rattle.monitor.specs.History.{Run}
 use Rattle.monitor.specs.History.Run.{none, then}
-use Rattle.monitor.specs.Wire.{numberOf, answerOf}
+use Rattle.wire.specs.Wire.{numberOf, answerOf}
 use Rattle.monitor.proofs.History.{Keeps, keeps-sound, keeps-state, step-keeps, run-answers, run-keeps, starts-code, start-keeps}
 use Rattle.monitor.proofs.Promises.{long-code}
 use Rattle.kernel.specs.Exports.{Begins, Crosses}

@@ -19,7 +19,7 @@ use Rattle.area.specs.Layout.{size}
 use Rattle.area.specs.Reading.{stateOf}
 use Rattle.area.specs.Sound.{Sound}
 use Rattle.monitor.specs.History.{Run}
-use Rattle.monitor.specs.Wire.{answerOf}
+use Rattle.wire.specs.Wire.{answerOf}
 use Rattle.kernel.specs.Exports.{Begins, Crosses}
 use Rattle.script.specs.Line.{meaning}
 use Rattle.script.specs.Line.Meaning.{call}

@@ -16,8 +16,8 @@ use Rattle.model.specs.Machine.{fieldsOf}
 use Rattle.monitor.specs.Calls.{Performs}
 use Rattle.monitor.specs.History.{Run, Ends}
 use Rattle.monitor.specs.History.Run.{none, then}
-use Rattle.monitor.specs.Wire.{numberOf, answerOf}
-use Rattle.monitor.proofs.Wire.{carries, read-answer}
+use Rattle.wire.specs.Wire.{numberOf, answerOf}
+use Rattle.wire.proofs.Wire.{carries, read-answer}
 use Rattle.monitor.proofs.History.{run-ends}
 use Rattle.monitor.proofs.Promises.{performs-fits}
 use Rattle.replay.specs.declared.Record.{Record}

@@ -12,7 +12,7 @@ use Rattle.model.specs.Machine.{fieldsOf}
 use Rattle.queues.specs.declared.listing.Listed.{Listed}
 use Rattle.timers.specs.declared.Told.{Told}
 use Rattle.timers.specs.declared.Earliest.{Earliest}
-use Rattle.monitor.specs.Wire.{packed, unpacked, Carries, listFields, dueFields, nearestFields, answerOf, listedOf, dueOf, nearestOf}
+use Rattle.wire.specs.Wire.{packed, unpacked, Carries, listFields, dueFields, nearestFields, answerOf, listedOf, dueOf, nearestOf}
 
 -- each field has w bits
 abbrev pub Fit : ℕ → List ℕ → Type 0

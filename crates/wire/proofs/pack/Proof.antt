@@ -1,8 +1,8 @@
--- `monitor::pack` meets its contract: each field stands in its place, and what stands above a field leaves room for it. Assumes nothing.
+-- `wire::pack` meets its contract: each field stands in its place, and what stands above a field leaves room for it. Assumes nothing.
 use mathlib.Core.Path.{refl}
 use borrow.Author.Needs.{needs}
-use Rattle.monitor.proofs.pack.Statement.{statement}
-use Rattle.monitor.proofs.pack.Tie as tie
+use Rattle.wire.proofs.pack.Statement.{statement}
+use Rattle.wire.proofs.pack.Tie as tie
 
 cast-above : tie.Need-cast-above
 cast-above c = search needs

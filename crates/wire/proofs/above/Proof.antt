@@ -1,9 +1,9 @@
--- `monitor::above` meets its contract: the field below, the others above, and the number fits. Assumes nothing.
+-- `wire::above` meets its contract: the field below, the others above, and the number fits. Assumes nothing.
 use native.Mathlib.Nat.{mod-lt}
 use native.Mathlib.Omega.{arith}
 use borrow.Author.Needs.{needs}
-use Rattle.monitor.proofs.above.Statement.{statement}
-use Rattle.monitor.proofs.above.Tie as tie
+use Rattle.wire.proofs.above.Statement.{statement}
+use Rattle.wire.proofs.above.Tie as tie
 
 rem-result : tie.Need-rem-result
 rem-result c = search needs
