@@ -10,7 +10,7 @@ use Rattle.model.specs.declared.Shape.{Shape}
 use Rattle.model.specs.Queue.{inside}
 use Rattle.model.specs.Field.Field.{priority, timer}
 use Rattle.model.proofs.Tests.{inside-bounds}
-use Rattle.ring.specs.Link.{slot}
+use Rattle.links.specs.Link.{slot}
 use Rattle.area.specs.Layout.{Part, Parts, alter, unit, span, home, has, at, recordsAt, Image, Stored}
 use Rattle.area.specs.Layout.Part.{kept, waiting}
 use Rattle.area.specs.Layout.Slot.{Flags, Timer}

@@ -17,8 +17,8 @@ use Rattle.model.specs.Queue.Queue.{ready, park, lock, condition}
 use Rattle.model.specs.Field.Field.{priority, failed}
 use Rattle.model.specs.Machine.{State, model}
 use Rattle.model.proofs.Tests.{inside-bounds}
-use Rattle.ring.specs.Link as link
-use Rattle.ring.specs.Link.{Stands, slot}
+use Rattle.links.specs.Link as link
+use Rattle.links.specs.Link.{Stands, slot}
 use Rattle.ring.specs.Ring.{Ring, Kept}
 use Rattle.area.specs.Layout.{Part, Parts, Slot, word, span, home, recordsAt, size, at, has, Image, Stored}
 use Rattle.area.specs.Layout.Part.{kept, tail, next, locked, waiting}

@@ -2,9 +2,9 @@
 use layout::HEAD;
 use layout::LOCK;
 use layout::READY;
+use links::RECORD;
 use model::Shape;
 use places::Place;
-use ring::RECORD;
 ghost use mathlib.Core.Path.{_≡_};
 ghost use mathlib.Core.Bool.{true};
 ghost use mathlib.Core.List.{List, _++_};
@@ -181,7 +181,7 @@ pub fn set_running(area: &mut [u16], p: u16)
     requires { ⌜ ((n : Shape) × Held n (now area) × (p ≤ n .processes)) ⌝ }
     ensures { λ _. ⌜ ((n : Shape) (s : State model) → Holds n (now (area .entry)) s → p ≤ n .processes → Becomes n (now (area .entry)) (now (area .exit)) (with running p s)) ⌝ }
 {
-    area[layout::RUNNING] = p * ring::NUMBER;
+    area[layout::RUNNING] = p * links::NUMBER;
 }
 
 // ---- the records, lent as a part behind what stands in front of them
@@ -203,7 +203,7 @@ pub fn set_rank(records: &mut [u16], p: u16, v: u16)
 {
     let at = (p as usize - 1) * RECORD;
     let link = records[at];
-    records[at] = with_part(link, ring::PRIORITY, ring::PRIORITIES as u32, v);
+    records[at] = with_part(link, links::PRIORITY, links::PRIORITIES as u32, v);
 }
 
 // p's waiting bit, which goes with a move; the flags have no other bit.

@@ -34,8 +34,8 @@ pub fn running() -> Place
 {
     Place {
         at: layout::RUNNING,
-        unit: ring::NUMBER,
-        span: ring::NUMBERS as u32,
+        unit: links::NUMBER,
+        span: links::NUMBERS as u32,
     }
 }
 
@@ -78,8 +78,8 @@ pub fn holder(shape: Shape, l: u16) -> Place
 {
     Place {
         at: lock_at(shape, l) + layout::HOLDER,
-        unit: ring::NUMBER,
-        span: ring::NUMBERS as u32,
+        unit: links::NUMBER,
+        span: links::NUMBERS as u32,
     }
 }
 

@@ -17,7 +17,7 @@ use Rattle.model.specs.Machine.{State, model}
 use Rattle.model.proofs.Tests.{holds, fails, SameCase, same-case, denied}
 use Rattle.model.proofs.Lists.{filter-member, falling-filter}
 use Rattle.model.proofs.Many.{filter-agree}
-use Rattle.ring.specs.Link.{relink, slot}
+use Rattle.links.specs.Link.{relink, slot}
 use Rattle.ring.specs.Ring.{Ring, Kept}
 use Rattle.ring.proofs.Frame.{kept-ring}
 use Rattle.ring.proofs.Rings.{ring-empty, ring-tail-small}
@@ -28,7 +28,8 @@ use Rattle.area.specs.Layout.Slot.{Tail, Timer}
 use Rattle.area.specs.State.{last, laid}
 use Rattle.area.specs.Holds.{Holds}
 use Rattle.area.specs.Rings.{records, swap, Relinked}
-use Rattle.area.specs.Loose.{Loose, Emptied, swept}
+use Rattle.area.specs.Loose.{Loose}
+use Rattle.crowds.specs.Crowds.{Emptied, swept}
 use Rattle.area.proofs.Stores.{load-at}
 use Rattle.area.proofs.Records.{part-back}
 use Rattle.moves.proofs.Relinks.{lent, lent-ring, back-set, relink-ring}

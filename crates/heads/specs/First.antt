@@ -4,7 +4,7 @@ use mathlib.Core.Path.{_≡_}
 use mathlib.Core.Bool.{Bool, true, false}
 use mathlib.Core.List.{List}
 use lib.ListN.{length, getD}
-use Rattle.ring.specs.Link.{Stands, link, next}
+use Rattle.links.specs.Link.{Stands, link, next}
 use Rattle.area.specs.Layout.{size}
 use Rattle.area.specs.Reading.{shapeOf}
 

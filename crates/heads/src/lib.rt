@@ -48,18 +48,18 @@ pub fn runs(area: &[u16], records: &[u16]) -> bool
     ensures { λ r. ⌜ Decides r (Runs (now (area .entry)) (now (records .entry))) ⌝ }
 {
     let w = area[layout::RUNNING];
-    let tail = area[layout::READY] / ring::NUMBER;
+    let tail = area[layout::READY] / links::NUMBER;
     if tail == 0 {
         if w != 0 {
             return false;
         }
         return true;
     }
-    let first = ring::next_of(records, tail);
-    if w != first * ring::NUMBER {
+    let first = links::next_of(records, tail);
+    if w != first * links::NUMBER {
         return false;
     }
-    let at = (first as usize - 1) * ring::RECORD;
+    let at = (first as usize - 1) * links::RECORD;
     let failed = records[at] / layout::FAILED % layout::BIT as u16;
     if failed != 0 {
         return false;
@@ -73,25 +73,25 @@ pub fn runs(area: &[u16], records: &[u16]) -> bool
 pub fn in_order(processes: u16, kind: u16, w: u16, v: u16) -> bool
     ensures { λ r. ⌜ r ≡ heading processes kind w v ⌝ }
 {
-    if processes < w / ring::NUMBER {
+    if processes < w / links::NUMBER {
         return false;
     }
-    if processes < v / ring::NUMBER {
+    if processes < v / links::NUMBER {
         return false;
     }
-    if v % ring::NUMBER != 0 {
+    if v % links::NUMBER != 0 {
         return false;
     }
     if v != 0 {
-        return w % ring::NUMBER == layout::LOCKED;
+        return w % links::NUMBER == layout::LOCKED;
     }
     if kind == CONDITION {
         if w == layout::WAKEUP {
             return true;
         }
-        return w % ring::NUMBER == 0;
+        return w % links::NUMBER == 0;
     }
-    w % ring::NUMBER == 0
+    w % links::NUMBER == 0
 }
 
 // Where the words of queue i of this kind stand, among those of the kind.

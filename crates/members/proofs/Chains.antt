@@ -11,7 +11,7 @@ use lib.ListN.{length, getD}
 use Rattle.model.specs.Queue.{inside, bit, member, count, All, Falling}
 use Rattle.model.proofs.Tests.{eqb-no, bit-small, inside-bounds}
 use Rattle.model.proofs.Lists.{all-map, member-here, member-there, member-count, absent-count, member-bit, at-most}
-use Rattle.ring.specs.Link.{slot, link, next, priority}
+use Rattle.links.specs.Link.{slot, link, next, priority}
 use Rattle.ring.specs.Ring.{lastOf, Linked}
 use Rattle.area.proofs.Rings.{Once, once-apart, last-member}
 use Rattle.members.specs.Walk.{isFresh, fitsIn, walked, ringed}

@@ -10,7 +10,7 @@ use lib.Dec.{eqb, leb}
 use lib.ListN.{length}
 use borrow.Author.Tests.{lt-ltb, le-ltb, le-leb, lt-leb, eq-eqb, ne-eqb}
 use Rattle.model.specs.Queue.{member}
-use Rattle.ring.specs.Link.{next, priority}
+use Rattle.links.specs.Link.{next, priority}
 use Rattle.members.specs.Walk.{isFresh, fitting, fitsIn, walked, ringed}
 
 -- ---- whether a process is fresh

@@ -6,7 +6,7 @@ use mathlib.Core.Bool.{Bool, true, false, not}
 use mathlib.Core.List.{List, _∷_}
 use mathlib.Core.Option.{Option, none, some}
 use borrow.Author.Tests.{not-true, not-false}
-use Rattle.ring.specs.Link.{next, priority}
+use Rattle.links.specs.Link.{next, priority}
 use Rattle.members.specs.Marks.{marked, Table}
 use Rattle.members.specs.Walk.{isFresh, fitsIn, walked, ringed, Met, Told}
 use Rattle.members.proofs.Marks.{table-marked}

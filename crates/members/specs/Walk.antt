@@ -8,7 +8,7 @@ use mathlib.Core.Option.{Option, none, some}
 use lib.Dec.{eqb, leb}
 use lib.ListN.{length, getD}
 use Rattle.model.specs.Queue.{inside, member}
-use Rattle.ring.specs.Link.{slot, link, next, priority}
+use Rattle.links.specs.Link.{slot, link, next, priority}
 use Rattle.members.specs.Marks.{Table}
 
 -- p is a process, not the holder o, and not yet met

@@ -72,17 +72,17 @@ fn fits(kind: u16, above: u16, link: u16, flags: u16, timer: u16) -> bool
     if flags != flags_of(kind) {
         return false;
     }
-    if above < ring::priority_field(link) {
+    if above < links::priority_field(link) {
         return false;
     }
     if kind == heads::CONDITION {
-        return link % ring::NUMBER == 0;
+        return link % links::NUMBER == 0;
     }
     if timer != 0 {
         return false;
     }
     if kind == heads::LOCK {
-        return link % ring::NUMBER == layout::FAILED;
+        return link % links::NUMBER == layout::FAILED;
     }
     link % layout::FAILED == 0
 }
@@ -103,15 +103,15 @@ pub fn walk(
     if tail == 0 {
         return count;
     }
-    let last = (tail - 1) * ring::RECORD;
-    let mut p = ring::next_field(records[last]) as usize;
+    let last = (tail - 1) * links::RECORD;
+    let mut p = links::next_field(records[last]) as usize;
     let mut above = layout::HIGHEST;
     let mut found = count;
     while found < processes {
         if !fresh(processes, holder, p, marks) {
             return BROKEN;
         }
-        let at = (p - 1) * ring::RECORD;
+        let at = (p - 1) * links::RECORD;
         let link = records[at];
         if !fits(
             kind,
@@ -127,8 +127,8 @@ pub fn walk(
         if p == tail {
             return found;
         }
-        above = ring::priority_field(link);
-        p = ring::next_field(link) as usize;
+        above = links::priority_field(link);
+        p = links::next_field(link) as usize;
     }
     BROKEN
 }

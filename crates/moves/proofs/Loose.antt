@@ -16,7 +16,7 @@ use Rattle.model.specs.Machine.{State, model}
 use Rattle.model.specs.Valid.{Placed}
 use Rattle.model.proofs.Tests.{holds, fails, SameCase, same-case, EqCase, eqb-case, PutCase, put-case, put-away}
 use Rattle.model.proofs.Places.{stands-at, waiting-is}
-use Rattle.ring.specs.Link as link
+use Rattle.links.specs.Link as link
 use Rattle.ring.proofs.Rings.{ring-same}
 use Rattle.area.specs.Layout.{Part, Parts, alter, recordsAt, size, has, home, Stored}
 use Rattle.area.specs.Layout.Part.{kept, tail, next, locked, waiting}

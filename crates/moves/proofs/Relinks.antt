@@ -15,10 +15,10 @@ use Rattle.model.specs.Queue.{Queue, inside, exists, member, remove, insert, Fa
 use Rattle.model.specs.Queue.Queue.{ready, park, lock, condition}
 use Rattle.model.proofs.Tests.{holds, fails, SameCase, same-case, EqCase, eqb-case, inside-bounds, denied}
 use Rattle.model.proofs.Lists.{remove-member, insert-member}
-use Rattle.ring.specs.Link as link
-use Rattle.ring.specs.Link.{relink, Stands}
+use Rattle.links.specs.Link as link
+use Rattle.links.specs.Link.{relink, Stands}
 use Rattle.ring.specs.Ring.{Ring, Kept, Left, Joined, Arrived}
-use Rattle.ring.proofs.Links.{relink-same}
+use Rattle.links.proofs.Links.{relink-same}
 use Rattle.ring.proofs.Frame.{left-kept, left-ring, joined-kept, joined-ring}
 use Rattle.ring.proofs.Rings.{ring-tail-small}
 use Rattle.ring.proofs.Places.{falling-agree, insert-agree}

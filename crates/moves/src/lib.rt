@@ -30,7 +30,7 @@ pub fn first_in(area: &[u16], shape: Shape, i: usize) -> u16
     ensures { λ r. ⌜ ((s : State model) (q : Queue) → Holds shape (now (area .entry)) s → exists shape q ≡ true → i ≡ at shape (Tail q) → r ≡ first (s .queues q)) ⌝ }
 {
     let at = area::records_at(shape);
-    let tail = ring::next_field(area[i]);
+    let tail = links::next_field(area[i]);
     ring::first_of(&area[at..], tail)
 }
 
@@ -41,7 +41,7 @@ pub fn count_in(area: &[u16], shape: Shape, i: usize) -> u16
     ensures { λ r. ⌜ ((s : State model) (q : Queue) → Holds shape (now (area .entry)) s → exists shape q ≡ true → i ≡ at shape (Tail q) → r ≡ length (s .queues q)) ⌝ }
 {
     let at = area::records_at(shape);
-    let tail = ring::next_field(area[i]);
+    let tail = links::next_field(area[i]);
     ring::length_of(&area[at..], tail)
 }
 
@@ -51,7 +51,7 @@ pub fn copy_out(area: &[u16], shape: Shape, i: usize, out: &mut [u16]) -> u16
     ensures { λ r. ⌜ ((s : State model) (q : Queue) → Holds shape (now (area .entry)) s → exists shape q ≡ true → i ≡ at shape (Tail q) → (r ≡ length (s .queues q)) × (now (out .exit) ≡ s .queues q ++ drop (length (s .queues q)) (now (out .entry)))) ⌝ }
 {
     let at = area::records_at(shape);
-    let tail = ring::next_field(area[i]);
+    let tail = links::next_field(area[i]);
     ring::write_out(&area[at..], tail, out)
 }
 
@@ -63,7 +63,7 @@ fn take_out(area: &mut [u16], base: usize, i: usize, p: u16) -> bool
     ensures { λ r. ⌜ ((n : Shape) → base ≡ recordsAt n → (j : Leaves n (now (area .entry)) i p) → Tried (j .stood) r (now (area .entry)) (now (area .exit)) (Relinked n (now (area .entry)) (now (area .exit)) (j .parts) (j .queues) (j .queue) (remove p (j .queues (j .queue))))) ⌝ }
 {
     let word = area[i];
-    let tail = ring::next_field(word);
+    let tail = links::next_field(word);
     let prev = ring::before(&area[base..], tail, p);
     if prev == 0 {
         return false;
@@ -73,7 +73,7 @@ fn take_out(area: &mut [u16], base: usize, i: usize, p: u16) -> bool
     if new == tail {
         return true;
     }
-    area[i] = ring::with_next(word, new);
+    area[i] = links::with_next(word, new);
     true
 }
 
@@ -83,8 +83,8 @@ fn put_in(area: &mut [u16], base: usize, i: usize, p: u16) -> Arrival
     ensures { λ r. ⌜ ((n : Shape) → base ≡ recordsAt n → (j : Joins n (now (area .entry)) i p) → Arrived p (insert (ranks (j .parts)) p (j .queues (j .queue))) (r .tail) (r .ahead) × Relinked n (now (area .entry)) (now (area .exit)) (j .parts) (j .queues) (j .queue) (insert (ranks (j .parts)) p (j .queues (j .queue)))) ⌝ }
 {
     let word = area[i];
-    let arrival = ring::join(&mut area[base..], ring::next_field(word), p);
-    area[i] = ring::with_next(word, arrival.tail);
+    let arrival = ring::join(&mut area[base..], links::next_field(word), p);
+    area[i] = links::with_next(word, arrival.tail);
     arrival
 }
 

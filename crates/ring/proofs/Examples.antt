@@ -3,7 +3,7 @@ use mathlib.Core.Path.{_≡_, refl}
 use mathlib.Core.List.{List, [], _∷_}
 use Prim.Native.Nat.{ℕ}
 use native.Mathlib.Omega.{arith}
-use Rattle.ring.specs.Link.{next, point}
+use Rattle.links.specs.Link.{next, point}
 use Rattle.ring.specs.Ring.{Ring}
 use Rattle.ring.proofs.Rings.{to-ring}
 

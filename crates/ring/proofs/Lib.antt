@@ -1,4 +1,3 @@
-pub mod Links
 pub mod Lists
 pub mod Places
 pub mod Rings

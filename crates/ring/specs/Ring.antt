@@ -7,7 +7,7 @@ use Prim.Native.Nat.{ℕ, zero, suc, _/_, _%_, _≤_}
 use lib.Dec.{leb}
 use lib.ListN.{length, getD}
 use Rattle.model.specs.Queue.{member, count, takeWhile, aheadOf, remove, insert}
-use Rattle.ring.specs.Link.{Stands, link, next, priority, point, wedge}
+use Rattle.links.specs.Link.{Stands, link, next, priority, point, wedge}
 
 -- ---- rings
 

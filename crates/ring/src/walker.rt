@@ -1,7 +1,7 @@
 // A ring walker, which keeps the records and a place. Assumes nothing.
-use crate::next_of;
+use links::next_of;
 ghost use mathlib.Core.Path.{_≡_};
-ghost use Rattle.ring.specs.Link.{Stands, next};
+ghost use Rattle.links.specs.Link.{Stands, next};
 
 // The records, and the process at which the walker stands.
 struct Walker<'a> {

@@ -9,7 +9,7 @@ use lib.ListN.{length, getD}
 use Rattle.model.specs.Queue.{Queue, inside, bit, exists, member, count, All}
 use Rattle.model.specs.Queue.Queue.{ready}
 use Rattle.model.proofs.Lists.{absent-count}
-use Rattle.ring.specs.Link as links
+use Rattle.links.specs.Link as links
 use Rattle.area.specs.Reading.{shapeOf}
 use Rattle.area.specs.Rings.{records}
 use Rattle.area.specs.Sound.{Sound}

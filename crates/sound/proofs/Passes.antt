@@ -15,7 +15,7 @@ use Rattle.model.specs.Machine as machine
 use Rattle.model.proofs.Tests.{eqb-yes, eqb-no, inside-bounds}
 use Rattle.model.proofs.Lists.{member-here}
 use Rattle.model.proofs.Places.{stands-at, waiting-is}
-use Rattle.ring.specs.Link as links
+use Rattle.links.specs.Link as links
 use Rattle.ring.specs.Ring.{lastOf, Linked}
 use Rattle.area.specs.Layout.{at}
 use Rattle.area.specs.Layout.Part.{kept, tail, next, waiting}

@@ -15,8 +15,8 @@ use Rattle.model.specs.declared.Shape.{Shape}
 use Rattle.model.specs.Queue.{Queue, inside}
 use Rattle.model.specs.Queue.Queue.{ready, park, lock, condition}
 use Rattle.model.proofs.Tests.{inside-bounds}
-use Rattle.ring.specs.Link as links
-use Rattle.ring.specs.Link.{Stands}
+use Rattle.links.specs.Link as links
+use Rattle.links.specs.Link.{Stands}
 use Rattle.area.specs.Layout.{size, at, locksAt, conditionsAt, recordsAt}
 use Rattle.area.specs.Layout.Slot.{Tail, Holder}
 use Rattle.area.specs.Reading.{shapeOf}

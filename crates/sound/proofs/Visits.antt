@@ -13,8 +13,8 @@ use Rattle.model.specs.Queue.Queue.{ready}
 use Rattle.model.specs.Field.Field.{priority}
 use Rattle.model.proofs.Tests.{inside-bounds}
 use Rattle.model.proofs.Lists.{member-count, absent-count, at-most}
-use Rattle.ring.specs.Link as links
-use Rattle.ring.specs.Link.{slot}
+use Rattle.links.specs.Link as links
+use Rattle.links.specs.Link.{slot}
 use Rattle.ring.specs.Ring.{lastOf, Linked}
 use Rattle.area.specs.Layout.{at, recordsAt}
 use Rattle.area.specs.Layout.Part.{kept, tail, next}

@@ -19,8 +19,8 @@ use Rattle.model.specs.Valid.{room}
 use Rattle.model.proofs.Tests.{Case, holds, fails, stops, same-case, eqb-yes, eqb-no, leb-no, inside-bounds}
 use Rattle.model.proofs.Lists.{member-here, member-there}
 use Rattle.model.proofs.Places.{at-place, waiting-is}
-use Rattle.ring.specs.Link as links
-use Rattle.ring.specs.Link.{slot}
+use Rattle.links.specs.Link as links
+use Rattle.links.specs.Link.{slot}
 use Rattle.ring.specs.Ring.{lastOf, Linked}
 use Rattle.area.specs.Layout.{Slot, word, at, has}
 use Rattle.area.specs.Layout.Part.{kept, tail, next, locked, waiting}

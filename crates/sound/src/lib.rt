@@ -44,8 +44,8 @@ fn rings(
                 records,
                 processes as usize,
                 kind,
-                (v / ring::NUMBER) as usize,
-                (w / ring::NUMBER) as usize,
+                (v / links::NUMBER) as usize,
+                (w / links::NUMBER) as usize,
                 found,
                 marks,
             );

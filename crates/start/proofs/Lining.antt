@@ -22,8 +22,8 @@ use Rattle.model.proofs.Tests.{holds, fails, SameCase, same-case, inside-bounds
 use Rattle.model.proofs.Places.{stands-start, falling-all}
 use Rattle.model.proofs.Kept.{given, fresh-bounded, fresh-range}
 use Rattle.model.proofs.Loops.{start-others, start-ready}
-use Rattle.ring.specs.Link as link
-use Rattle.ring.specs.Link.{slot}
+use Rattle.links.specs.Link as link
+use Rattle.links.specs.Link.{slot}
 use Rattle.ring.specs.Ring.{Linked, Ring}
 use Rattle.ring.proofs.Rings.{ring-tail-small}
 use Rattle.many.specs.Bands.{Ranked, Gathered}

@@ -106,7 +106,7 @@ fn line_up(area: &mut [u16], shape: Shape, priorities: &[u8])
 {
     let at = area::records_at(shape);
     let tail = many::bands::gather(&mut area[at..], priorities);
-    area[layout::READY] = tail * ring::NUMBER;
+    area[layout::READY] = tail * links::NUMBER;
 }
 
 // ---- Start

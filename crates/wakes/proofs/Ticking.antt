@@ -27,7 +27,8 @@ use Rattle.model.proofs.Many.{without, filter-all, filter-none, filter-agree, f
 use Rattle.area.specs.Layout.{conditionsAt, recordsAt, at}
 use Rattle.area.specs.Layout.Slot.{Tail}
 use Rattle.area.specs.Holds.{Holds, Becomes, with, Gives}
-use Rattle.area.specs.Loose.{Loose, swept, staying, Crowd, Woken, ringing}
+use Rattle.area.specs.Loose.{Loose}
+use Rattle.crowds.specs.Crowds.{swept, staying, Crowd, Woken, ringing}
 use Rattle.area.specs.Calls.{Does}
 use Rattle.area.proofs.Puts.{becomes-none}
 use Rattle.area.proofs.Rings.{member-inside, queue-none}

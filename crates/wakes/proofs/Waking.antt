@@ -22,12 +22,13 @@ use Rattle.model.proofs.Tests.{holds, fails, SameCase, same-case, denied}
 use Rattle.model.proofs.Fields.{calm-priorities}
 use Rattle.model.proofs.Loops.{queue-moved, first-moved}
 use Rattle.model.proofs.Many.{without, filter-all, filter-none, many-others, many-ready, placed-woken}
-use Rattle.ring.specs.Link as link
+use Rattle.links.specs.Link as link
 use Rattle.ring.specs.Ring.{Linked}
 use Rattle.area.specs.State.{last}
 use Rattle.area.specs.Holds.{Holds, Becomes, with, Gives}
 use Rattle.area.specs.Rings.{records, swap}
-use Rattle.area.specs.Loose.{Loose, Emptied, Crowd, Woken, Chain}
+use Rattle.area.specs.Loose.{Loose}
+use Rattle.crowds.specs.Crowds.{Emptied, Crowd, Woken, Chain}
 use Rattle.area.specs.Calls.{Does, Missing, Calling, changed}
 use Rattle.area.proofs.Puts.{becomes-none}
 use Rattle.area.proofs.Rings.{member-inside, one-queue, queue-once}

@@ -14,7 +14,8 @@ ghost use Rattle.model.specs.Rules.{calm, due};
 ghost use Rattle.model.specs.Machine.{State, model};
 ghost use Rattle.model.specs.Valid.{Valid};
 ghost use Rattle.area.specs.Holds.{Holds, Held, Becomes};
-ghost use Rattle.area.specs.Loose.{Loose, staying, ringing};
+ghost use Rattle.area.specs.Loose.{Loose};
+ghost use Rattle.crowds.specs.Crowds.{staying, ringing};
 ghost use Rattle.area.specs.Calls.{Stands, Does, changed};
 
 // Whether nobody's timer is at this time.
@@ -40,7 +41,7 @@ fn next_waited(area: &[u16], from: usize, end: usize) -> usize
     ensures { λ r. ⌜ (from ≤ r) × (r ≤ end) × ((k : ℕ) → from ≤ k → k < r → getD (now (area .entry)) k 0 < 8) ⌝ }
 {
     let mut i = from;
-    while i < end && area[i] < ring::NUMBER {
+    while i < end && area[i] < links::NUMBER {
         i += 1;
     }
     i

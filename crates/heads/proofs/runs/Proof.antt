@@ -3,7 +3,7 @@ use native.Mathlib.Omega.{arith}
 use mathlib.Core.Path.{_∙_}
 use denote.Ref.{now}
 use borrow.Author.Needs.{needs}
-use Rattle.ring.specs.Link.{Stands}
+use Rattle.links.specs.Link.{Stands}
 use Rattle.heads.proofs.runs.Statement.{statement}
 use Rattle.heads.proofs.runs.Tie as tie
 

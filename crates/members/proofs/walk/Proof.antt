@@ -5,7 +5,7 @@ use borrow.Author.Tests.{not-false}
 use Prim.Native.Nat.{ℕ, _-_, _≤_, _<_}
 use native.Mathlib.Omega.{arith}
 use mathlib.Core.List.{List}
-use Rattle.ring.specs.Link.{next, priority}
+use Rattle.links.specs.Link.{next, priority}
 use Rattle.members.specs.Walk.{ringed, Met}
 use Rattle.members.proofs.Walks.{Going, going-none, going-start, going-out, going-stale, going-unfit, going-last, going-on}
 use Rattle.members.proofs.walk.Statement.{statement}

@@ -39,7 +39,7 @@ use denote.Triple.Table.{entered, cited}
 use denote.Triple.Walked.{says, needs, Stays, stay-none, stay-none-slice, walkOf, goes-none, goes-none-slice, Walks, ends-at, walked, walk-meets}
 use denote.Exit.{yes}
 use denote.Triple.Clauses.{ensured, lasts}
-use Rattle.ring.specs.Link.{Stands, next}
+use Rattle.links.specs.Link.{Stands, next}
 use Rattle.ring.specs.declared.walker.Walker.{Walker}
 use Rattle.ring.proofs.walker.Walker as T
 use Rattle.ring.proofs.walker.Walker.Laws as T′

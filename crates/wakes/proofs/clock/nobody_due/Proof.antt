@@ -11,7 +11,7 @@ use Rattle.model.proofs.Tests.{bounds-inside}
 use Rattle.area.specs.Layout.{recordsAt}
 use Rattle.area.specs.State.{laid}
 use Rattle.area.specs.Holds.{Holds}
-use Rattle.area.specs.Loose.{ringing}
+use Rattle.crowds.specs.Crowds.{ringing}
 use Rattle.area.proofs.Whole.{counts-in}
 use Rattle.moves.proofs.Relinks.{lent-front, lent-image}
 use Rattle.wakes.proofs.Ticking.{none-next}

@@ -7,7 +7,8 @@ use Rattle.model.specs.Queue.Queue.{condition}
 use Rattle.model.specs.Machine.{State, model}
 use Rattle.area.specs.Layout.{conditionsAt, recordsAt}
 use Rattle.area.specs.Holds.{Holds}
-use Rattle.area.specs.Loose.{Loose, staying}
+use Rattle.area.specs.Loose.{Loose}
+use Rattle.crowds.specs.Crowds.{staying}
 use Rattle.moves.proofs.Loose.{loose-of}
 use Rattle.wakes.proofs.Ticking.{condition-here, sweep-next, sweep-end, sweep-skips}
 use borrow.Author.Needs.{needs}
