@@ -29,6 +29,14 @@ pub enum Call {
 }
 
 impl Call {
+    pub fn requeue(source: u16, destination: u16, process: u16) -> Self {
+        Call::Requeue {
+            source,
+            destination,
+            process,
+        }
+    }
+
     pub fn name(&self) -> &'static str {
         match self {
             Call::Start { .. } => "start",

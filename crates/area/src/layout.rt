@@ -44,6 +44,9 @@ pub const LOCKED: u16 = 1;
 
 pub const WAKEUP: u16 = 1;
 
+// The bits of a link below failed, which have no name.
+pub const UNNAMED: u16 = 3;
+
 // ---- how many values a part has
 
 pub const BIT: u32 = 2;

@@ -126,7 +126,25 @@ fn with_part(word: u16, unit: u16, span: u32, value: u16) -> u16
     ((high | low) + value as u32 * unit as u32) as u16
 }
 
-// ---- a read and a write
+// ---- reads and writes
+
+// Who runs, 0 for nobody.
+pub fn running_of(area: &[u16]) -> u16
+    requires { ⌜ ((n : Shape) × Held n (now area)) ⌝ }
+    ensures { λ r. ⌜ ((n : Shape) (s : State model) → Holds n (now (area .entry)) s → r ≡ s .fields running) ⌝ }
+{
+    links::next_field(area[layout::RUNNING])
+}
+
+// Who holds the lock, 0 for nobody.
+pub fn holder_of(area: &[u16], shape: Shape, l: u16) -> u16
+    requires { ⌜ Held shape (now area) ⌝ }
+    requires { ⌜ inside (shape .locks) l ≡ true ⌝ }
+    ensures { λ r. ⌜ ((s : State model) → Holds shape (now (area .entry)) s → r ≡ s .fields (holder l)) ⌝ }
+{
+    let at = lock_at(shape, l) + layout::HOLDER;
+    links::next_field(area[at])
+}
 
 // The field of the state at this place.
 pub fn get(area: &[u16], place: Place) -> u16

@@ -29,16 +29,6 @@ pub fn clock() -> Place
     }
 }
 
-pub fn running() -> Place
-    ensures { λ r. ⌜ ((n : Shape) → Lies n (kept Field.running) r) ⌝ }
-{
-    Place {
-        at: layout::RUNNING,
-        unit: links::NUMBER,
-        span: links::NUMBERS as u32,
-    }
-}
-
 pub fn failed(shape: Shape, p: u16) -> Place
     requires { ⌜ inside (shape .processes) p ≡ true ⌝ }
     ensures { λ r. ⌜ Lies shape (kept (Field.failed p)) r ⌝ }

@@ -48,7 +48,7 @@ pub fn runs(area: &[u16], records: &[u16]) -> bool
     ensures { λ r. ⌜ Decides r (Runs (now (area .entry)) (now (records .entry))) ⌝ }
 {
     let w = area[layout::RUNNING];
-    let tail = area[layout::READY] / links::NUMBER;
+    let tail = links::next_field(area[layout::READY]);
     if tail == 0 {
         if w != 0 {
             return false;
@@ -60,8 +60,7 @@ pub fn runs(area: &[u16], records: &[u16]) -> bool
         return false;
     }
     let at = (first as usize - 1) * links::RECORD;
-    let failed = records[at] / layout::FAILED % layout::BIT as u16;
-    if failed != 0 {
+    if records[at] & layout::FAILED != 0 {
         return false;
     }
     true
@@ -73,25 +72,26 @@ pub fn runs(area: &[u16], records: &[u16]) -> bool
 pub fn in_order(processes: u16, kind: u16, w: u16, v: u16) -> bool
     ensures { λ r. ⌜ r ≡ heading processes kind w v ⌝ }
 {
-    if processes < w / links::NUMBER {
+    // all that stands above the low bits, so that past here it is the number alone
+    if processes < w >> links::SHIFT {
         return false;
     }
-    if processes < v / links::NUMBER {
+    if processes < v >> links::SHIFT {
         return false;
     }
-    if v % links::NUMBER != 0 {
+    if v & links::LOW != 0 {
         return false;
     }
     if v != 0 {
-        return w % links::NUMBER == layout::LOCKED;
+        return w & links::LOW == layout::LOCKED;
     }
     if kind == CONDITION {
         if w == layout::WAKEUP {
             return true;
         }
-        return w % links::NUMBER == 0;
+        return w & links::LOW == 0;
     }
-    w % links::NUMBER == 0
+    w & links::LOW == 0
 }
 
 // Where the words of queue i of this kind stand, among those of the kind.

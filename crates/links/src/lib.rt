@@ -20,13 +20,23 @@ pub const NUMBER: u16 = 8;
 // A process's number is below this.
 pub const NUMBERS: u16 = 1024;
 
+// A process's number has ten bits, above three others.
+pub const SHIFT: u16 = 3;
+
+pub const MASK: u16 = 1023;
+
+// The ten bits in their place, and the three below them.
+const FIELD: u16 = 8184;
+
+pub const LOW: u16 = 7;
+
 // ---- readers
 
-// The next in a link, or the tail in a tail's word.
+// The process's number in a word: the next in a link, a tail, a holder, or who runs.
 pub fn next_field(word: u16) -> u16
     ensures { λ r. ⌜ r ≡ word / 8 % 1024 ⌝ }
 {
-    word / NUMBER % NUMBERS
+    (word >> SHIFT) & MASK
 }
 
 // Whether n is the next in a link: asked of the bits in their place, so that a walk has no more than the link to carry on.
@@ -34,7 +44,7 @@ pub fn points(word: u16, n: u16) -> bool
     requires { ⌜ n < 1024 ⌝ }
     ensures { λ r. ⌜ r ≡ eqb (word / 8 % 1024) n ⌝ }
 {
-    word % PRIORITY - word % NUMBER == n * NUMBER
+    word & FIELD == n * NUMBER
 }
 
 // The priority in a link.

@@ -55,12 +55,12 @@ pub fn enter(area: &mut [u16], shape: Shape, lock: u16) -> Answer
     requires { ⌜ Stands shape (now area) ⌝ }
     ensures { λ r. ⌜ ((s : State model) → Holds shape (now (area .entry)) s → Valid shape s → Does (Enter lock) shape (now (area .entry)) (now (area .exit)) s r) ⌝ }
 {
-    let running = area::get(area, places::running());
+    let running = area::running_of(area);
     let code = codes::calling(running, shape.locks, lock);
     if code != 0 {
         return answers::refusal(code);
     }
-    let holder = area::get(area, places::holder(shape, lock));
+    let holder = area::holder_of(area, shape, lock);
     if holder == running {
         return answers::refusal(8);
     }
@@ -76,12 +76,12 @@ pub fn exit(area: &mut [u16], shape: Shape, lock: u16) -> Answer
     requires { ⌜ Stands shape (now area) ⌝ }
     ensures { λ r. ⌜ ((s : State model) → Holds shape (now (area .entry)) s → Valid shape s → Does (Exit lock) shape (now (area .entry)) (now (area .exit)) s r) ⌝ }
 {
-    let running = area::get(area, places::running());
+    let running = area::running_of(area);
     let code = codes::calling(running, shape.locks, lock);
     if code != 0 {
         return answers::refusal(code);
     }
-    let holder = area::get(area, places::holder(shape, lock));
+    let holder = area::holder_of(area, shape, lock);
     if holder != running {
         return answers::refusal(9);
     }

@@ -54,12 +54,12 @@ pub fn wait(area: &mut [u16], shape: Shape, lock: u16, condition: u16, ticks: Ti
     requires { ⌜ Stands shape (now area) ⌝ }
     ensures { λ r. ⌜ ((s : State model) → Holds shape (now (area .entry)) s → Valid shape s → Does (Wait lock condition ticks) shape (now (area .entry)) (now (area .exit)) s r) ⌝ }
 {
-    let running = area::get(area, places::running());
+    let running = area::running_of(area);
     let code = codes::calling_two(running, shape.locks, lock, shape.conditions, condition);
     if code != 0 {
         return answers::refusal(code);
     }
-    let holder = area::get(area, places::holder(shape, lock));
+    let holder = area::holder_of(area, shape, lock);
     if holder != running {
         return answers::refusal(9);
     }

@@ -6,11 +6,13 @@ use mathlib.Core.Path.{_≡_, refl, sym, _∙_}
 use mathlib.Core.Bool.{Bool, true, false, not, and-false}
 use mathlib.Core.List.{List, _∷_}
 use mathlib.Core.Option.{none, some}
+use lib.Bits.{bitAnd, and-mask}
 use lib.Dec.{eqb, leb}
 use lib.ListN.{length}
 use borrow.Author.Tests.{lt-ltb, le-ltb, le-leb, lt-leb, eq-eqb, ne-eqb}
 use Rattle.model.specs.Queue.{member}
 use Rattle.links.specs.Link.{next, priority}
+use Rattle.links.proofs.Links.{low-bits}
 use Rattle.members.specs.Walk.{isFresh, fitting, fitsIn, walked, ringed}
 
 -- ---- whether a process is fresh
@@ -46,22 +48,25 @@ module _ (k b w f t : ℕ) where
   unfolding fitting
   fit-rises h = rw (lt-leb (w / 8192) b h)
 
+  unnamed : bitAnd w 3 ≡ w % 4
+  unnamed = and-mask w 2
+
   module _ (h : w / 8192 ≤ b) where
-    pub fit-waits : k ≡ 2 → f ≡ 2 → eqb (w % 8) 0 ≡ fitting k b w f t
+    pub fit-waits : k ≡ 2 → f ≡ 2 → eqb (bitAnd w 7) 0 ≡ fitting k b w f t
     unfolding fitting
-    fit-waits e d = rw (le-leb (w / 8192) b h, eq-eqb k 2 e, eq-eqb f 2 d)
+    fit-waits e d = rw (low-bits w, le-leb (w / 8192) b h, eq-eqb k 2 e, eq-eqb f 2 d)
 
     pub fit-timed : (k ≡ 2 → ⊥) → f ≡ 0 → (t ≡ 0 → ⊥) → false ≡ fitting k b w f t
     unfolding fitting
     fit-timed e d n = rw (le-leb (w / 8192) b h, ne-eqb k 2 e, eq-eqb f 0 d, ne-eqb t 0 n)
 
-    pub fit-blocked : (k ≡ 2 → ⊥) → f ≡ 0 → t ≡ 0 → k ≡ 1 → eqb (w % 8) 4 ≡ fitting k b w f t
+    pub fit-blocked : (k ≡ 2 → ⊥) → f ≡ 0 → t ≡ 0 → k ≡ 1 → eqb (bitAnd w 7) 4 ≡ fitting k b w f t
     unfolding fitting
-    fit-blocked e d g l = rw (le-leb (w / 8192) b h, ne-eqb k 2 e, eq-eqb f 0 d, eq-eqb t 0 g, eq-eqb k 1 l)
+    fit-blocked e d g l = rw (low-bits w, le-leb (w / 8192) b h, ne-eqb k 2 e, eq-eqb f 0 d, eq-eqb t 0 g, eq-eqb k 1 l)
 
-    pub fit-plain : (k ≡ 2 → ⊥) → f ≡ 0 → t ≡ 0 → (k ≡ 1 → ⊥) → eqb (w % 4) 0 ≡ fitting k b w f t
+    pub fit-plain : (k ≡ 2 → ⊥) → f ≡ 0 → t ≡ 0 → (k ≡ 1 → ⊥) → eqb (bitAnd w 3) 0 ≡ fitting k b w f t
     unfolding fitting
-    fit-plain e d g l = rw (le-leb (w / 8192) b h, ne-eqb k 2 e, eq-eqb f 0 d, eq-eqb t 0 g, ne-eqb k 1 l)
+    fit-plain e d g l = rw (unnamed, le-leb (w / 8192) b h, ne-eqb k 2 e, eq-eqb f 0 d, eq-eqb t 0 g, ne-eqb k 1 l)
 
 -- ---- the walk
 

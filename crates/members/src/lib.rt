@@ -8,8 +8,10 @@ ghost use lib.ListN.{length};
 ghost use Rattle.members.specs.Marks.{metIn, marked, Table};
 ghost use Rattle.members.specs.Walk.{isFresh, fitting, ringed, Met, Told};
 
-// The bits of a word of the table.
-const BITS: usize = 64;
+// A word of the table has 64 bits: the number of a bit has six.
+const SHIFT: usize = 6;
+
+const MASK: usize = 63;
 
 // The answer where a ring is broken, above every number of processes.
 pub const BROKEN: usize = 1024;
@@ -21,9 +23,9 @@ fn met(marks: &[u64; 16], p: usize) -> bool
     requires { ⌜ p < 1024 ⌝ }
     ensures { λ r. ⌜ r ≡ metIn (now (marks .entry)) p ⌝ }
 {
-    let i = p / BITS;
-    let bits = marks[i] >> (p % BITS);
-    bits % 2 == 1
+    let i = p >> SHIFT;
+    let bits = marks[i] >> (p & MASK);
+    bits & 1 == 1
 }
 
 // p is now met.
@@ -31,9 +33,9 @@ fn mark(marks: &mut [u64; 16], p: usize)
     requires { ⌜ p < 1024 ⌝ }
     ensures { λ _. ⌜ now (marks .exit) ≡ marked (now (marks .entry)) p ⌝ }
 {
-    let i = p / BITS;
+    let i = p >> SHIFT;
     let bits = marks[i];
-    marks[i] = bits | (1 << (p % BITS));
+    marks[i] = bits | (1 << (p & MASK));
 }
 
 // ---- one ring
@@ -76,15 +78,15 @@ fn fits(kind: u16, above: u16, link: u16, flags: u16, timer: u16) -> bool
         return false;
     }
     if kind == heads::CONDITION {
-        return link % links::NUMBER == 0;
+        return link & links::LOW == 0;
     }
     if timer != 0 {
         return false;
     }
     if kind == heads::LOCK {
-        return link % links::NUMBER == layout::FAILED;
+        return link & links::LOW == layout::FAILED;
     }
-    link % layout::FAILED == 0
+    link & layout::UNNAMED == 0
 }
 
 // Walks the ring of `tail` from its first and marks each process that it meets. The answer is how many are met by then, BROKEN if it is no such ring.

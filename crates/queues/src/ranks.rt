@@ -1,6 +1,5 @@
 // Priorities: SetPriority. Assumes nothing.
 use area::layout;
-use area::places;
 use model::Answer;
 use model::Priority;
 use model::Shape;
@@ -16,7 +15,7 @@ pub fn set_priority(area: &mut [u16], shape: Shape, priority: Priority) -> Answe
     ensures { λ r. ⌜ ((s : State model) → Holds shape (now (area .entry)) s → Valid shape s → Does (SetPriority priority) shape (now (area .entry)) (now (area .exit)) s r) ⌝ }
 {
     let v = priority.0;
-    let running = area::get(area, places::running());
+    let running = area::running_of(area);
     if running == 0 {
         return answers::refusal(6);
     }

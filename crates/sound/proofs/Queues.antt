@@ -1,5 +1,5 @@
 -- The queues of a kind, one after the other: how a pass over their words goes on or breaks off, and that it visits the queues of the area. Assumes nothing.
-use Prim.Native.Nat.{ℕ, zero, suc, _+_, _-_, _*_, _/_, _≤_, _<_}
+use Prim.Native.Nat.{ℕ, zero, suc, _+_, _-_, _*_, _/_, _%_, _≤_, _<_}
 use native.Mathlib.Numerals.{add-one}
 use native.Mathlib.Decide.{ℕ-discrete}
 use native.Mathlib.Omega.{arith}
@@ -25,6 +25,7 @@ use Rattle.area.proofs.Records.{part-lent}
 use Rattle.heads.specs.First.{Decides, Counted, Led, Runs}
 use Rattle.heads.specs.Heads.{heading, headAt, holderIn}
 use Rattle.heads.proofs.Steps.{head-empty, head-empty-held}
+use Rattle.heads.proofs.Tests.{heading-is}
 use Rattle.members.specs.Walk.{ringed, Met, Told}
 use Rattle.members.proofs.Steps.{ring-empty}
 use Rattle.members.proofs.Chains.{Words}
@@ -84,19 +85,26 @@ module _ (hs rs : List ℕ) (P k : ℕ) where
           let no : heading P k w v ≡ false = sym is-ok ∙ not-true ok x in
           told-none P ms′ _ (passed-stops (i + 1) n js₀ (omega arith) (here ∙ rw no))
 
-      module _ (x : not ok ≡ false) (c : ℕ) (ms′ : List ℕ) (told : (js : List ℕ) → Met P ms js m → Told P c ms′ (ringed rs P k (v / 8) (w / 8) js)) where
-        after : passed hs rs P k (i + 1) js₀ ≡ ringed rs P k (v / 8) (w / 8) (p .js)
-        after = let yes : heading P k w v ≡ true = sym is-ok ∙ not-false ok x in here ∙ rw yes
+      -- past the test the holder o and the tail t, as they are read, are all that stands above the bits below them
+      module _ (x : not ok ≡ false) (few : P < 1024) (o t : ℕ) (holder : o ≡ v / 8 % 1024) (tail : t ≡ w / 8 % 1024)
+          (c : ℕ) (ms′ : List ℕ) (told : (js : List ℕ) → Met P ms js m → Told P c ms′ (ringed rs P k o t js)) where
+        after : passed hs rs P k (i + 1) js₀ ≡ ringed rs P k o t (p .js)
+        after =
+            let yes : heading P k w v ≡ true = sym is-ok ∙ not-false ok x in
+            let h = heading-is P k w v yes in
+            let reads-holder : v / 8 ≡ o = omega (arith, h .holder) in
+            let reads-tail : w / 8 ≡ t = omega (arith, h .tail) in
+            here ∙ rw (yes, reads-holder, reads-tail)
 
-        pub passed-broken : (ms″ : List ℕ) → P < 1024 → c ≡ 1024 → Told P 1024 ms″ (passed hs rs P k n js₀)
-        passed-broken ms″ s z = go (ringed rs P k (v / 8) (w / 8) (p .js)) after (told (p .js) (p .met))
+        pub passed-broken : (ms″ : List ℕ) → c ≡ 1024 → Told P 1024 ms″ (passed hs rs P k n js₀)
+        passed-broken ms″ z = go (ringed rs P k o t (p .js)) after (told (p .js) (p .met))
           where
             go : (out : Option (List ℕ)) → passed hs rs P k (i + 1) js₀ ≡ out → Told P c ms′ out → Told P 1024 ms″ (passed hs rs P k n js₀)
             go none q t = told-none P ms″ _ (passed-stops (i + 1) n js₀ (omega arith) q)
             go (some js) q t = absurd (omega arith)
 
         pub passed-on : (c ≡ 1024 → ⊥) → Passed hs rs P k (i + 1) ms′ c js₀
-        passed-on z = go (ringed rs P k (v / 8) (w / 8) (p .js)) after (told (p .js) (p .met))
+        passed-on z = go (ringed rs P k o t (p .js)) after (told (p .js) (p .met))
           where
             go : (out : Option (List ℕ)) → passed hs rs P k (i + 1) js₀ ≡ out → Told P c ms′ out → Passed hs rs P k (i + 1) ms′ c js₀
             go none q t = absurd (z t)

@@ -37,15 +37,16 @@ fn rings(
                 return BROKEN;
             }
         } else {
-            if !heads::in_order(processes, kind, w, v) {
+            // ten bits, as a compiler sees too: past the test it reads holder and tail without a mask
+            if !heads::in_order(processes & links::MASK, kind, w, v) {
                 return BROKEN;
             }
             found = members::walk(
                 records,
                 processes as usize,
                 kind,
-                (v / links::NUMBER) as usize,
-                (w / links::NUMBER) as usize,
+                links::next_field(v) as usize,
+                links::next_field(w) as usize,
                 found,
                 marks,
             );

@@ -44,7 +44,7 @@ pub fn notify(area: &mut [u16], shape: Shape, condition: u16) -> Answer
     requires { ⌜ Stands shape (now area) ⌝ }
     ensures { λ r. ⌜ ((s : State model) → Holds shape (now (area .entry)) s → Valid shape s → Does (Notify condition) shape (now (area .entry)) (now (area .exit)) s r) ⌝ }
 {
-    let running = area::get(area, places::running());
+    let running = area::running_of(area);
     let code = codes::calling(running, shape.conditions, condition);
     if code != 0 {
         return answers::refusal(code);
@@ -70,7 +70,7 @@ pub fn broadcast(area: &mut [u16], shape: Shape, condition: u16) -> Answer
     requires { ⌜ Stands shape (now area) ⌝ }
     ensures { λ r. ⌜ ((s : State model) → Holds shape (now (area .entry)) s → Valid shape s → Does (Broadcast condition) shape (now (area .entry)) (now (area .exit)) s r) ⌝ }
 {
-    let running = area::get(area, places::running());
+    let running = area::running_of(area);
     let code = codes::calling(running, shape.conditions, condition);
     if code != 0 {
         return answers::refusal(code);

@@ -94,14 +94,6 @@ fn play(tally: &mut Tally, turns: &[(Call, Fields)]) -> Outcome {
     tally.holds(lent.intact(), || "guard words".to_string())
 }
 
-fn requeue(source: u16, destination: u16, process: u16) -> Call {
-    Call::Requeue {
-        source,
-        destination,
-        process,
-    }
-}
-
 /// Start, and all but 1, who runs, go to the park.
 fn all_but_one_parked(priorities: &[u8]) -> Vec<(Call, Fields)> {
     let start = Call::Start {
@@ -111,7 +103,7 @@ fn all_but_one_parked(priorities: &[u8]) -> Vec<(Call, Fields)> {
         parks: 1,
         priorities: priorities.to_vec(),
     };
-    let parked = (2..=MOST).map(|process| requeue(0, 1, process));
+    let parked = (2..=MOST).map(|process| Call::requeue(0, 1, process));
     let calls = std::iter::once(start).chain(parked);
     calls.map(|call| (call, [0, 1, 0, 0, 0, 0])).collect()
 }
@@ -127,10 +119,10 @@ fn before(priorities: &[u8], first: u16, newcomer: u16) -> u16 {
 fn all_at_the_lock(priorities: &[u8]) -> Vec<(Call, Fields)> {
     let mut turns = all_but_one_parked(priorities);
     turns.push((Call::Enter(1), [0, 1, 0, 1, 0, 0]));
-    turns.push((requeue(0, 1, 1), [0, 0, 0, 0, 0, 0]));
+    turns.push((Call::requeue(0, 1, 1), [0, 0, 0, 0, 0, 0]));
     for process in 2..=MOST {
         let ahead = before(priorities, 2, process);
-        turns.push((requeue(1, 0, process), [0, process, 0, 0, 1, 0]));
+        turns.push((Call::requeue(1, 0, process), [0, process, 0, 0, 1, 0]));
         turns.push((Call::Enter(1), [0, 0, 0, 0, 0, ahead]));
     }
     turns
@@ -139,7 +131,7 @@ fn all_at_the_lock(priorities: &[u8]) -> Vec<(Call, Fields)> {
 /// All come out of the park and wait on the condition.
 fn all_at_the_condition(priorities: &[u8]) -> Vec<(Call, Fields)> {
     let mut turns = all_but_one_parked(priorities);
-    turns.push((requeue(0, 1, 1), [0, 0, 0, 0, 0, 0]));
+    turns.push((Call::requeue(0, 1, 1), [0, 0, 0, 0, 0, 0]));
     for process in 1..=MOST {
         let ahead = before(priorities, 1, process);
         let wait = Call::Wait {
@@ -147,7 +139,7 @@ fn all_at_the_condition(priorities: &[u8]) -> Vec<(Call, Fields)> {
             condition: 1,
             ticks: 0,
         };
-        turns.push((requeue(1, 0, process), [0, process, 0, 0, 1, 0]));
+        turns.push((Call::requeue(1, 0, process), [0, process, 0, 0, 1, 0]));
         turns.push((Call::Enter(1), [0, process, 0, 1, 0, 0]));
         turns.push((wait, [0, 0, 0, 1, 0, ahead]));
     }

@@ -20,6 +20,7 @@ pub fn run(tally: &mut Tally, random: &mut Random) -> Outcome {
     scattered_states(tally, random)?;
     crowds(tally, random)?;
     boundaries(tally, random)?;
+    every_number(tally)?;
     long_areas(tally, random)?;
     damaged_areas(tally, random)
 }
@@ -80,11 +81,6 @@ fn with_number(state: &State, number: u16) -> Vec<Call> {
         condition,
         ticks: 5,
     };
-    let requeue = |source, destination, process| Call::Requeue {
-        source,
-        destination,
-        process,
-    };
     vec![
         Call::Enter(number),
         Call::Exit(number),
@@ -93,10 +89,10 @@ fn with_number(state: &State, number: u16) -> Vec<Call> {
         Call::Notify(number),
         Call::Broadcast(number),
         Call::Naked(number),
-        requeue(number, 0, state.running),
-        requeue(0, number, state.running),
-        requeue(0, 0, number),
-        requeue(1, 0, number),
+        Call::requeue(number, 0, state.running),
+        Call::requeue(0, number, state.running),
+        Call::requeue(0, 0, number),
+        Call::requeue(1, 0, number),
         Call::SetPriority(number),
     ]
 }
@@ -123,6 +119,42 @@ fn boundaries(tally: &mut Tally, random: &mut Random) -> Outcome {
                 compare(tally, &mut lent, &call)?;
             }
         }
+    }
+    Ok(())
+}
+
+/// Each of 1,023 processes alone in ready, on the condition and with the lock: every number as
+/// that of who runs, of a holder, in a tail and as a next.
+fn every_number(tally: &mut Tally) -> Outcome {
+    const MOST: u16 = 1_023;
+    let start = Call::Start {
+        processes: MOST,
+        locks: 1,
+        conditions: 1,
+        parks: 1,
+        priorities: vec![4; usize::from(MOST)],
+    };
+    let wait = Call::Wait {
+        lock: 1,
+        condition: 1,
+        ticks: 0,
+    };
+    let parked = (1..=MOST).map(|process| Call::requeue(0, 1, process));
+    let turns = (1..=MOST).flat_map(|process| {
+        [
+            Call::requeue(1, 0, process),
+            Call::Enter(1),
+            wait.clone(),
+            Call::Naked(1),
+            Call::Enter(1),
+            Call::Exit(1),
+            Call::requeue(0, 1, process),
+        ]
+    });
+    let mut lent = Guarded::new(&[0; 4_096]);
+    for call in std::iter::once(start).chain(parked).chain(turns) {
+        let answer = compare(tally, &mut lent, &call)?;
+        tally.same(&answer.code, &0, || format!("{call:?}"))?;
     }
     Ok(())
 }

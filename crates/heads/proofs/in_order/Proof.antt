@@ -1,5 +1,4 @@
 -- `heads::in_order` meets its contract: one test after the other, as `heading` has them. Assumes nothing.
-use native.Mathlib.Omega.{arith}
 use Rattle.heads.proofs.Steps.{head-tail, head-holder, head-unnamed, head-held, head-wakeup, head-plain}
 use Rattle.heads.proofs.in_order.Statement.{statement}
 use Rattle.heads.proofs.in_order.Tie as tie
@@ -11,7 +10,7 @@ returns-2 : tie.Need-returns-2
 returns-2 c = head-holder _ _ _ _ (c .before .if1 .left) (c .if2 .taken)
 
 returns-3 : tie.Need-returns-3
-returns-3 c = head-unnamed _ _ _ _ (c .before .before .if1 .left) (c .before .if2 .left) (λ z. c .if3 .taken (omega arith))
+returns-3 c = head-unnamed _ _ _ _ (c .before .before .if1 .left) (c .before .if2 .left) (c .if3 .taken)
 
 returns-4 : tie.Need-returns-4
 returns-4 c = head-held _ _ _ _ (c .before .before .before .if1 .left) (c .before .before .if2 .left) (c .before .if3 .left) (c .if4 .taken)

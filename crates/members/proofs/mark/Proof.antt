@@ -1,5 +1,9 @@
--- `members::mark` meets its contract, which is its code. Assumes nothing.
-use mathlib.Core.Path.{refl}
+-- `members::mark` meets its contract: to shift is to divide, and to mask is the remainder. Assumes nothing.
+use mathlib.Core.Path.{ap}
+use Prim.Native.Nat.{ℕ, _*_, _/_, _%_, _^_}
+use denote.Ref.{now}
+use lib.Bits.{bitOr, and-mask, mask-lt}
+use lib.ListN.{getD, set}
 use Rattle.members.specs.Marks.{marked}
 use borrow.Author.Needs.{needs}
 use Rattle.members.proofs.mark.Statement.{statement}
@@ -12,7 +16,7 @@ element-copy-out-bits : tie.Need-element-copy-out-bits
 element-copy-out-bits c = search needs
 
 shl-marks : tie.Need-shl-marks
-shl-marks c = search needs
+shl-marks c = mask-lt (c .before .args .p) 6
 
 mul-marks : tie.Need-mul-marks
 mul-marks c = search needs
@@ -22,7 +26,10 @@ element-write-marks c = search needs
 
 returns : tie.Need-returns
 unfolding marked
-returns c = refl
+returns c =
+    let s = c .before .args in
+    let ms = now (s .marks) in
+    ap (λ (k : ℕ). set ms (s .p / 64) (bitOr (getD ms (s .p / 64) 0) (1 * 2 ^ k % 2 ^ 64))) (and-mask (s .p) 6)
 
 pub mark-spec : {M : Type 1} → statement M
 mark-spec =

@@ -1,5 +1,10 @@
--- `members::met` meets its contract, which is its code. Assumes nothing.
-use mathlib.Core.Path.{refl}
+-- `members::met` meets its contract: to shift is to divide, and to mask is the remainder. Assumes nothing.
+use mathlib.Core.Path.{ap, _∙_}
+use Prim.Native.Nat.{ℕ, _/_, _%_, _^_}
+use denote.Ref.{now}
+use lib.Bits.{bitAnd, and-mask, mask-lt}
+use lib.Dec.{eqb}
+use lib.ListN.{getD}
 use Rattle.members.specs.Marks.{metIn}
 use borrow.Author.Needs.{needs}
 use Rattle.members.proofs.met.Statement.{statement}
@@ -12,11 +17,14 @@ element-copy-out-bits : tie.Need-element-copy-out-bits
 element-copy-out-bits c = search needs
 
 shr-bits : tie.Need-shr-bits
-shr-bits c = search needs
+shr-bits c = mask-lt (c .before .args .p) 6
 
 returns : tie.Need-returns
 unfolding metIn
-returns c = refl
+returns c =
+    let s = c .before .args in
+    let word = getD (now (s .marks)) (s .p / 64) 0 in
+    ap (λ (k : ℕ). eqb (bitAnd (word / 2 ^ k) 1) 1) (and-mask (s .p) 6) ∙ ap (λ (b : ℕ). eqb b 1) (and-mask (word / 2 ^ (s .p % 64)) 1)
 
 pub met-spec : {M : Type 1} → statement M
 met-spec = tie.close (tie.spec mul-bits element-copy-out-bits shr-bits returns)

@@ -5,9 +5,11 @@ use borrow.Author.Tests.{not-false}
 use denote.Ref.{now}
 use Prim.Native.Nat.{ℕ, _-_, _/_, _≤_, _<_}
 use native.Mathlib.Omega.{arith}
-use mathlib.Core.Path.{refl, sym, _∙_}
+use mathlib.Core.Path.{_≡_, refl, sym, _∙_}
 use mathlib.Core.List.{List}
+use lib.Bits.{bitAnd, and-mask}
 use lib.ListN.{length, getD}
+use Rattle.heads.specs.Heads.{heading}
 use Rattle.heads.proofs.Steps.{head-within, holder-within}
 use Rattle.heads.proofs.Tests.{heading-is}
 use Rattle.members.specs.Walk.{Met}
@@ -68,31 +70,46 @@ loop-again c = (
 in-order-requires : tie.Need-in-order-requires Inv-loop μ-loop
 in-order-requires c κs = search needs
 
+-- the words are tested for as many processes as there are
+tested : (c : tie.After-in-order Inv-loop μ-loop) → let a = c .before .before .before .before .before .before .before .before .before .args in let h = c .before .before in c .in-order .result ≡ heading (a .processes) (a .kind) (getD (now (a .heads)) (h .before .before .head-at .result) 0) (h .holder-word .result)
+tested c =
+    let s = c .before .before .before .before .before .before .before .before .before in
+    let few = s .pre .0 in
+    let most : bitAnd (s .args .processes) 1023 ≡ s .args .processes = and-mask (s .args .processes) 10 ∙ omega (arith, few) in
+    rw most at (c .in-order .ensures)
+
 returns-2 : tie.Need-returns-2 Inv-loop μ-loop
 returns-2 c js T =
     let h = c .before .before .before in
     let l = h .before .before .before .before in
-    passed-odd _ _ _ _ _ _ _ _ (h .before .before .head-at .ensures) refl (h .holder-word .ensures) _ (h .before .before .before .loop-test .taken) _ _ js (l .loop .inv .1 js T) _ (c .before .in-order .ensures) _ (c .if3 .taken)
+    passed-odd _ _ _ _ _ _ _ _ (h .before .before .head-at .ensures) refl (h .holder-word .ensures) _ (h .before .before .before .loop-test .taken) _ _ js (l .loop .inv .1 js T) _ (tested (c .before)) _ (c .if3 .taken)
 
 -- past the test the tail is one of 0 to P
 tail-small : (c : tie.Else3 Inv-loop μ-loop) → getD (now (c .before .before .before .before .before .before .before .before .before .before .args .heads)) (c .before .before .before .before .before .head-at .result) 0 / 8 ≤ c .before .before .before .before .before .before .before .before .before .before .args .processes
-tail-small c = heading-is _ _ _ _ (sym (c .before .in-order .ensures) ∙ not-false _ (c .if3 .left)) .tail
+tail-small c = heading-is _ _ _ _ (sym (tested (c .before)) ∙ not-false _ (c .if3 .left)) .tail
+
+next-field-requires : tie.Need-next-field-requires Inv-loop μ-loop
+next-field-requires c κs = search needs
 
 cast-walk : tie.Need-cast-walk Inv-loop μ-loop
 cast-walk c = search needs
 
+next-field-requires-2 : tie.Need-next-field-requires-2 Inv-loop μ-loop
+next-field-requires-2 c κs = search needs
+
 cast-walk-2 : tie.Need-cast-walk-2 Inv-loop μ-loop
-cast-walk-2 c = omega (arith, tail-small c)
+cast-walk-2 c = search needs
 
 walk-requires : tie.Need-walk-requires Inv-loop μ-loop
-walk-requires c κs = omega (arith, tail-small (c .before))
+walk-requires c κs = let f = c .before in omega (arith, f .next-field2 .ensures, tail-small (f .before .before))
 
 returns-3 : tie.Need-returns-3 Inv-loop μ-loop
 returns-3 c = λ js T.
-    let i3 = c .before .before .before in
+    let f = c .before .before .before in
+    let i3 = f .before .before in
     let h = i3 .before .before .before in
     let l = h .before .before .before .before in
-    passed-broken _ _ _ _ _ _ _ _ (h .before .before .head-at .ensures) refl (h .holder-word .ensures) _ (h .before .before .before .loop-test .taken) _ _ js (l .loop .inv .1 js T) _ (i3 .before .in-order .ensures) (i3 .if3 .left) _ _ (c .before .walk .ensures) _ (l .before .before .before .pre .0) (c .if4 .taken)
+    passed-broken _ _ _ _ _ _ _ _ (h .before .before .head-at .ensures) refl (h .holder-word .ensures) _ (h .before .before .before .loop-test .taken) _ _ js (l .loop .inv .1 js T) _ (tested (i3 .before)) (i3 .if3 .left) (l .before .before .before .pre .0) _ _ (f .before .next-field .ensures) (f .next-field2 .ensures) _ _ (c .before .walk .ensures) _ (c .if4 .taken)
 
 loop-less-2 : tie.Need-loop-less-2 Inv-loop μ-loop
 loop-less-2 c = omega arith
@@ -101,10 +118,11 @@ loop-again-2 : tie.Need-loop-again-2 Inv-loop μ-loop
 loop-again-2 c = (
   omega arith,
   λ js T.
-      let i3 = c .before .before .before in
+      let f = c .before .before .before in
+      let i3 = f .before .before in
       let h = i3 .before .before .before in
       let l = h .before .before .before .before in
-      passed-on _ _ _ _ _ _ _ _ (h .before .before .head-at .ensures) refl (h .holder-word .ensures) _ (h .before .before .before .loop-test .taken) _ _ js (l .loop .inv .1 js T) _ (i3 .before .in-order .ensures) (i3 .if3 .left) _ _ (c .before .walk .ensures) (c .if4 .left),
+      passed-on _ _ _ _ _ _ _ _ (h .before .before .head-at .ensures) refl (h .holder-word .ensures) _ (h .before .before .before .loop-test .taken) _ _ js (l .loop .inv .1 js T) _ (tested (i3 .before)) (i3 .if3 .left) (l .before .before .before .pre .0) _ _ (f .before .next-field .ensures) (f .next-field2 .ensures) _ _ (c .before .walk .ensures) (c .if4 .left),
 )
 
 returns-4 : tie.Need-returns-4 Inv-loop μ-loop
@@ -127,7 +145,9 @@ rings-spec =
     loop-again
     in-order-requires
     returns-2
+    next-field-requires
     cast-walk
+    next-field-requires-2
     cast-walk-2
     walk-requires
     returns-3

@@ -1,16 +1,12 @@
 -- `wakes::broadcast` meets its contract: all of the condition wake, by the rule of Broadcast. Assumes nothing.
-use Rattle.model.specs.Field.Field.{running}
 use Rattle.moves.proofs.Outcomes.{calling-there}
 use Rattle.wakes.proofs.Waking.{broadcast-refused, broadcast-all}
 use borrow.Author.Needs.{needs}
 use Rattle.wakes.proofs.broadcast.Statement.{statement}
 use Rattle.wakes.proofs.broadcast.Tie as tie
 
-running-requires : tie.Need-running-requires
-running-requires c κs = search needs
-
-get-requires : tie.Need-get-requires
-get-requires c κs = (c .before .before .before .args .shape, running, (c .before .before .before .pre .state, c .before .before .before .pre .holds), c .running .ensures (c .before .before .before .args .shape))
+running-of-requires : tie.Need-running-of-requires
+running-of-requires c κs = let s = c .before .before in (s .args .shape, (s .pre .state, s .pre .holds))
 
 calling-requires : tie.Need-calling-requires
 calling-requires c κs = search needs
@@ -23,36 +19,35 @@ same-length c = search needs
 
 returns : tie.Need-returns
 returns c s H v =
-    let n = c .before .before .before .before .before .before .before .args .shape in
-    broadcast-refused H (c .before .before .before .before .before .before .before .args .condition) (c .before .before .before .get .ensures n s running H (c .before .before .before .before .running .ensures n)) (c .before .before .calling .ensures) (c .before .if1 .taken) (c .refusal .ensures)
+    let n = c .before .before .before .before .before .before .args .shape in
+    broadcast-refused H (c .before .before .before .before .before .before .args .condition) (c .before .before .before .running-of .ensures n s H) (c .before .before .calling .ensures) (c .before .if1 .taken) (c .refusal .ensures)
 
 condition-at-requires : tie.Need-condition-at-requires
 condition-at-requires c κs = calling-there (c .before .calling .ensures) (c .if1 .left)
 
 wake-all-requires : tie.Need-wake-all-requires
-wake-all-requires c κs = (c .before .before .before .before .before .before .before .before .args .condition, (c .before .before .before .before .before .before .before .before .pre .state, c .before .before .before .before .before .before .before .before .pre .holds), calling-there (c .before .before .before .calling .ensures) (c .before .before .if1 .left), c .before .condition-at .ensures)
+wake-all-requires c κs = (c .before .before .before .before .before .before .before .args .condition, (c .before .before .before .before .before .before .before .pre .state, c .before .before .before .before .before .before .before .pre .holds), calling-there (c .before .before .before .calling .ensures) (c .before .before .if1 .left), c .before .condition-at .ensures)
 
 finish-requires : tie.Need-finish-requires
 finish-requires c κs =
     let i = calling-there (c .before .before .before .before .before .before .before .calling .ensures) (c .before .before .before .before .before .before .if1 .left) in
-    (_, c .before .before .before .wake-all .ensures (c .before .before .before .before .before .before .before .before .before .before .before .before .pre .state) (c .before .before .before .before .before .before .before .before .before .before .before .before .args .condition) (c .before .before .before .before .before .before .before .before .before .before .before .before .pre .holds) i (c .before .before .before .before .before .condition-at .ensures) .1 .holds)
+    (_, c .before .before .before .wake-all .ensures (c .before .before .before .before .before .before .before .before .before .before .before .pre .state) (c .before .before .before .before .before .before .before .before .before .before .before .args .condition) (c .before .before .before .before .before .before .before .before .before .before .before .pre .holds) i (c .before .before .before .before .before .condition-at .ensures) .1 .holds)
 
 same-length-2 : tie.Need-same-length-2
 same-length-2 c = search needs
 
 returns-2 : tie.Need-returns-2
 returns-2 c s H v =
-    let n = c .before .before .before .before .before .before .before .before .before .before .before .before .before .before .before .args .shape in
+    let n = c .before .before .before .before .before .before .before .before .before .before .before .before .before .before .args .shape in
     let i = calling-there (c .before .before .before .before .before .before .before .before .before .before .calling .ensures) (c .before .before .before .before .before .before .before .before .before .if1 .left) in
-    let b = c .before .before .before .before .before .before .wake-all .ensures s (c .before .before .before .before .before .before .before .before .before .before .before .before .before .before .before .args .condition) H i (c .before .before .before .before .before .before .before .before .condition-at .ensures) in
-    broadcast-all H (c .before .before .before .before .before .before .before .before .before .before .before .before .before .before .before .args .condition) (c .before .before .before .before .before .before .before .before .before .before .before .get .ensures n s running H (c .before .before .before .before .before .before .before .before .before .before .before .before .running .ensures n)) (c .before .before .before .before .before .before .before .before .before .before .calling .ensures) (c .before .before .before .before .before .before .before .before .before .if1 .left) (b .0) (b .1) (c .before .before .finish .ensures _ (b .1 .holds))
+    let b = c .before .before .before .before .before .before .wake-all .ensures s (c .before .before .before .before .before .before .before .before .before .before .before .before .before .before .args .condition) H i (c .before .before .before .before .before .before .before .before .condition-at .ensures) in
+    broadcast-all H (c .before .before .before .before .before .before .before .before .before .before .before .before .before .before .args .condition) (c .before .before .before .before .before .before .before .before .before .before .before .running-of .ensures n s H) (c .before .before .before .before .before .before .before .before .before .before .calling .ensures) (c .before .before .before .before .before .before .before .before .before .if1 .left) (b .0) (b .1) (c .before .before .finish .ensures _ (b .1 .holds))
 
 pub broadcast-spec : {M : Type 1} → statement M
 broadcast-spec =
     tie.close
     (tie.spec
-    running-requires
-    get-requires
+    running-of-requires
     calling-requires
     refusal-requires
     same-length
