@@ -20,7 +20,7 @@ use Rattle.model.proofs.Tests.{eqb-yes, eqb-no}
 use Rattle.model.proofs.Loops.{released-moved}
 use Rattle.area.specs.Holds.{Holds, Becomes, with, sent, Gives}
 use Rattle.area.specs.Calls.{Does, Calling, changed}
-use Rattle.moves.proofs.Outcomes.{when-yes, when-no, choose-yes, choose-no, Tested, calling-tested, refuses, refuses-by, accepts, accepts-ready}
+use Rattle.outcomes.proofs.Outcomes.{when-yes, when-no, choose-yes, choose-no, Tested, calling-tested, refuses, refuses-by, accepts, accepts-ready}
 use Rattle.moves.proofs.Numbers.{first-only, nobody-first}
 
 -- ---- the rules, with r the running process, k the code of the tests that every call of a lock shares, and h the lock's holder

@@ -26,7 +26,7 @@ use Rattle.model.proofs.Places.{moves-append, arrivals-append, ahead-after}
 use Rattle.model.proofs.Loops.{released-moved}
 use Rattle.area.specs.Holds.{Holds, Becomes, with, sent, Gives}
 use Rattle.area.specs.Calls.{Does, CallingTwo, changed}
-use Rattle.moves.proofs.Outcomes.{when-yes, when-no, choose-yes, choose-no, Tested, two-tested, refuses, refuses-by, accepts, accepts-ready}
+use Rattle.outcomes.proofs.Outcomes.{when-yes, when-no, choose-yes, choose-no, Tested, two-tested, refuses, refuses-by, accepts, accepts-ready}
 use Rattle.moves.proofs.Shared.{runner-stands}
 
 -- ---- the timer, 0 for none and 1 in the place of 0

@@ -18,7 +18,7 @@ ghost use Rattle.monitor.specs.Calls.{Performs, ListsOn, TellsOn, Neares
 fn unsound() -> Answer
     ensures { λ r. ⌜ r ≡ refusal 1 ⌝ }
 {
-    moves::answers::refusal(1)
+    outcomes::answers::refusal(1)
 }
 
 pub fn enter(area: &mut [u16], lock: u16) -> Answer

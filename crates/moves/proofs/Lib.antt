@@ -3,6 +3,5 @@ pub mod Relinks
 pub mod Tries
 pub mod Loose
 pub mod Moves
-pub mod Outcomes
 pub mod Numbers
 pub mod Shared

@@ -1,5 +1,4 @@
-// The queues of an area, as rings in its records: reads of one, the move of a process from one to another, and dispatch. `answers` ends a call with its answer, and `codes` has the tests that calls share. Assumes nothing.
-use area::places;
+// The queues of an area, as rings in its records: reads of one, and the move of a process from one to another. Assumes nothing.
 use model::Shape;
 use ring::Arrival;
 ghost use mathlib.Core.Path.{_≡_};
@@ -11,15 +10,12 @@ ghost use Rattle.model.specs.declared.Shape.{Shape};
 ghost use Rattle.model.specs.Queue.{Queue, exists, member, aheadOf, remove, insert, first};
 ghost use Rattle.model.specs.Queue.Queue.{ready};
 ghost use Rattle.model.specs.Field.Field.{priority};
-ghost use Rattle.model.specs.Machine.{State, model, retry};
+ghost use Rattle.model.specs.Machine.{State, model};
 ghost use Rattle.ring.specs.Ring.{Arrived};
 ghost use Rattle.area.specs.Layout.{at, recordsAt};
 ghost use Rattle.area.specs.Layout.Slot.{Tail};
-ghost use Rattle.area.specs.Holds.{Holds, Held, Becomes, Tried, Moves, with, sent, dispatched};
+ghost use Rattle.area.specs.Holds.{Holds, Held, Becomes, Tried, Moves, with, sent};
 ghost use Rattle.area.specs.Rings.{Leaves, Joins, Relinked, ranks};
-
-pub mod answers;
-pub mod codes;
 
 // ---- reads
 
@@ -127,36 +123,4 @@ pub fn rank(area: &mut [u16], base: usize, p: u16, v: u16)
     take_out(area, base, at, p);
     area::set_rank(&mut area[base..], p, v);
     put_in(area, base, at, p);
-}
-
-// ---- dispatch
-
-// Who runs now, and whether its failed bit was set.
-struct Dispatched {
-    running: u16,
-    retry: u16,
-}
-
-// The first of ready runs, and is no longer failed.
-fn dispatch(area: &mut [u16], shape: Shape) -> Dispatched
-    requires { ⌜ Held shape (now area) ⌝ }
-    ensures { λ r. ⌜ ((s : State model) → Holds shape (now (area .entry)) s → (r .running ≡ first (s .queues ready)) × (r .retry ≡ retry (s .queues ready) (s .fields)) × Becomes shape (now (area .entry)) (now (area .exit)) (dispatched s)) ⌝ }
-{
-    let at = area::ready_at();
-    let first = first_in(area, shape, at);
-    area::set_running(area, first);
-    if first == 0 {
-        return Dispatched {
-            running: 0,
-            retry: 0,
-        };
-    }
-    let failed = area::get(area, places::failed(shape, first));
-    if failed != 0 {
-        area::put(area, places::failed(shape, first), 0);
-    }
-    Dispatched {
-        running: first,
-        retry: failed,
-    }
 }

@@ -20,7 +20,7 @@ use Rattle.model.specs.Valid.{Valid}
 use Rattle.model.proofs.Tests.{eqb-yes, eqb-no, leb-yes, leb-no}
 use Rattle.area.specs.Holds.{Holds, Becomes, with, sent, Gives}
 use Rattle.area.specs.Calls.{Does}
-use Rattle.moves.proofs.Outcomes.{when-yes, when-no, refuses, accepts-ready}
+use Rattle.outcomes.proofs.Outcomes.{when-yes, when-no, refuses, accepts-ready}
 use Rattle.moves.proofs.Shared.{runner-stands}
 
 -- r is the running process

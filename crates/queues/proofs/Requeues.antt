@@ -24,7 +24,7 @@ use Rattle.area.specs.Holds.{Holds, Becomes, Moves, Gives}
 use Rattle.area.specs.Calls.{Does, changed}
 use Rattle.moves.proofs.Numbers.{is-outside, is-inside, not-outside}
 use Rattle.moves.proofs.Shared.{trying}
-use Rattle.moves.proofs.Outcomes.{when-yes, when-no, refuses, accepts}
+use Rattle.outcomes.proofs.Outcomes.{when-yes, when-no, refuses, accepts}
 
 -- ---- ready and the parks
 

@@ -2,7 +2,7 @@
 use model::Answer;
 use model::Process;
 use model::Shape;
-use moves::answers;
+use outcomes::answers;
 ghost use mathlib.Core.Path.{_≡_};
 ghost use mathlib.Core.Logic.{_≢_};
 ghost use mathlib.Core.Bool.{true, false};

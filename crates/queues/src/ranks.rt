@@ -3,7 +3,7 @@ use area::layout;
 use model::Answer;
 use model::Priority;
 use model::Shape;
-use moves::answers;
+use outcomes::answers;
 ghost use Rattle.model.specs.declared.Call.the-variants.{SetPriority};
 ghost use Rattle.model.specs.Machine.{State, model};
 ghost use Rattle.model.specs.Valid.{Valid};

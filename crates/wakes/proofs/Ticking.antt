@@ -33,7 +33,7 @@ use Rattle.area.specs.Calls.{Does}
 use Rattle.area.proofs.Puts.{becomes-none}
 use Rattle.area.proofs.Rings.{member-inside, queue-none}
 use Rattle.moves.proofs.Loose.{waits-in}
-use Rattle.moves.proofs.Outcomes.{accepts-ready}
+use Rattle.outcomes.proofs.Outcomes.{accepts-ready}
 use Rattle.crowds.proofs.Leaving.{loose-empty}
 use Rattle.wakes.proofs.Waking.{woken, woken-becomes}
 

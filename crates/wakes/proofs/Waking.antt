@@ -34,7 +34,7 @@ use Rattle.area.proofs.Puts.{becomes-none}
 use Rattle.area.proofs.Rings.{member-inside, one-queue, queue-once}
 use Rattle.area.proofs.Records.{queue-ring}
 use Rattle.moves.proofs.Numbers.{not-outside, first-only, nobody-first}
-use Rattle.moves.proofs.Outcomes.{when-no, Tested, missing-tested, calling-tested, refuses-by, accepts, accepts-ready}
+use Rattle.outcomes.proofs.Outcomes.{when-no, Tested, missing-tested, calling-tested, refuses-by, accepts, accepts-ready}
 use Rattle.moves.proofs.Loose.{settled}
 
 -- ---- the rules, with r the running process and k the code of the tests on the numbers

@@ -2,7 +2,7 @@
 use area::places;
 use model::Answer;
 use model::Shape;
-use moves::answers;
+use outcomes::answers;
 ghost use mathlib.Core.Path.{_≡_};
 ghost use mathlib.Core.Bool.{true};
 ghost use mathlib.Core.List.{[]};

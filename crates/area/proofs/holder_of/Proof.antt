@@ -28,7 +28,7 @@ mul-next-field : tie.Need-mul-next-field
 mul-next-field c = omega (arith, below c)
 
 shared-slice-read-next-field : tie.Need-shared-slice-read-next-field
-shared-slice-read-next-field c = below (c .before)
+shared-slice-read-next-field c = omega (arith, below (c .before))
 
 next-field-requires : tie.Need-next-field-requires
 next-field-requires c κs = search needs

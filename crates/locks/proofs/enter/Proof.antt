@@ -1,6 +1,6 @@
 -- `locks::enter` meets its contract: its tests in the rule's order; a free lock is taken, and for a held one who runs blocks. Assumes nothing.
 use Rattle.moves.proofs.Shared.{runner-stands, runner-small}
-use Rattle.moves.proofs.Outcomes.{calling-runs, calling-there}
+use Rattle.outcomes.proofs.Outcomes.{calling-runs, calling-there}
 use Rattle.locks.proofs.Locking.{enter-refused, enter-own, enter-free, enter-taken}
 use borrow.Author.Needs.{needs}
 use Rattle.locks.proofs.enter.Statement.{statement}

@@ -1,5 +1,5 @@
 -- `locks::exit` meets its contract: its tests in the rule's order, and then the release. Assumes nothing.
-use Rattle.moves.proofs.Outcomes.{calling-there}
+use Rattle.outcomes.proofs.Outcomes.{calling-there}
 use Rattle.locks.proofs.Locking.{exit-refused, exit-foreign, exit-own}
 use borrow.Author.Needs.{needs}
 use Rattle.locks.proofs.exit.Statement.{statement}

@@ -1,8 +1,10 @@
 -- `members::mark` meets its contract: to shift is to divide, and to mask is the remainder. Assumes nothing.
 use mathlib.Core.Path.{ap}
 use Prim.Native.Nat.{ℕ, _*_, _/_, _%_, _^_}
+use native.Mathlib.Nat.{lt-of-le-of-lt}
+use native.Mathlib.Omega.{arith}
 use denote.Ref.{now}
-use lib.Bits.{bitOr, and-mask, mask-lt}
+use lib.Bits.{bitOr, and-mask, and-le-r}
 use lib.ListN.{getD, set}
 use Rattle.members.specs.Marks.{marked}
 use borrow.Author.Needs.{needs}
@@ -16,7 +18,7 @@ element-copy-out-bits : tie.Need-element-copy-out-bits
 element-copy-out-bits c = search needs
 
 shl-marks : tie.Need-shl-marks
-shl-marks c = mask-lt (c .before .args .p) 6
+shl-marks c = lt-of-le-of-lt (and-le-r (c .before .args .p) _) (omega arith)
 
 mul-marks : tie.Need-mul-marks
 mul-marks c = search needs

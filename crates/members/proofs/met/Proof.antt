@@ -1,8 +1,10 @@
 -- `members::met` meets its contract: to shift is to divide, and to mask is the remainder. Assumes nothing.
 use mathlib.Core.Path.{ap, _∙_}
 use Prim.Native.Nat.{ℕ, _/_, _%_, _^_}
+use native.Mathlib.Nat.{lt-of-le-of-lt}
+use native.Mathlib.Omega.{arith}
 use denote.Ref.{now}
-use lib.Bits.{bitAnd, and-mask, mask-lt}
+use lib.Bits.{bitAnd, and-mask, and-le-r}
 use lib.Dec.{eqb}
 use lib.ListN.{getD}
 use Rattle.members.specs.Marks.{metIn}
@@ -17,7 +19,7 @@ element-copy-out-bits : tie.Need-element-copy-out-bits
 element-copy-out-bits c = search needs
 
 shr-bits : tie.Need-shr-bits
-shr-bits c = mask-lt (c .before .args .p) 6
+shr-bits c = lt-of-le-of-lt (and-le-r (c .before .args .p) _) (omega arith)
 
 returns : tie.Need-returns
 unfolding metIn

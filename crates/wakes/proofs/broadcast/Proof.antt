@@ -1,5 +1,5 @@
 -- `wakes::broadcast` meets its contract: all of the condition wake, by the rule of Broadcast. Assumes nothing.
-use Rattle.moves.proofs.Outcomes.{calling-there}
+use Rattle.outcomes.proofs.Outcomes.{calling-there}
 use Rattle.wakes.proofs.Waking.{broadcast-refused, broadcast-all}
 use borrow.Author.Needs.{needs}
 use Rattle.wakes.proofs.broadcast.Statement.{statement}

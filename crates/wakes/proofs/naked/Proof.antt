@@ -3,7 +3,7 @@ use native.Mathlib.Omega.{arith}
 use mathlib.Core.Path.{refl, sym, _∙_}
 use Rattle.model.specs.Field.Field.{wakeup}
 use Rattle.area.proofs.Puts.{becomes-then}
-use Rattle.moves.proofs.Outcomes.{missing-there}
+use Rattle.outcomes.proofs.Outcomes.{missing-there}
 use Rattle.moves.proofs.Shared.{taking}
 use Rattle.wakes.proofs.Waking.{naked-refused, naked-first, naked-nobody, still}
 use borrow.Author.Needs.{needs}

@@ -1,5 +1,5 @@
 -- `wakes::notify` meets its contract: the refusals of Notify, and else its first wakes. Assumes nothing.
-use Rattle.moves.proofs.Outcomes.{calling-there}
+use Rattle.outcomes.proofs.Outcomes.{calling-there}
 use Rattle.wakes.proofs.Waking.{notify-refused, notify-first}
 use borrow.Author.Needs.{needs}
 use Rattle.wakes.proofs.notify.Statement.{statement}

@@ -5,7 +5,7 @@ use mathlib.Core.Path.{refl}
 use Rattle.model.specs.Field.Field.{wakeup}
 use Rattle.area.proofs.Puts.{becomes-then}
 use Rattle.moves.proofs.Shared.{taking}
-use Rattle.moves.proofs.Outcomes.{two-runs, two-first, two-second}
+use Rattle.outcomes.proofs.Outcomes.{two-runs, two-first, two-second}
 use Rattle.locks.proofs.Waiting.{waiter-stands, wait-refused, wait-foreign, wait-over, wait-sleeps}
 use borrow.Author.Needs.{needs}
 use Rattle.locks.proofs.waits.wait.Statement.{statement}

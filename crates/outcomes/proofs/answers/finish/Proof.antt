@@ -1,7 +1,7 @@
--- `moves::answers::finish` meets its contract: dispatch, and its answer as the call's. Assumes nothing.
+-- `outcomes::answers::finish` meets its contract: dispatch, and its answer as the call's. Assumes nothing.
 use borrow.Author.Needs.{needs}
-use Rattle.moves.proofs.answers.finish.Statement.{statement}
-use Rattle.moves.proofs.answers.finish.Tie as tie
+use Rattle.outcomes.proofs.answers.finish.Statement.{statement}
+use Rattle.outcomes.proofs.answers.finish.Tie as tie
 
 dispatch-requires : tie.Need-dispatch-requires
 dispatch-requires c κs = search needs

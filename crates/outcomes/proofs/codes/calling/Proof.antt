@@ -1,9 +1,9 @@
--- `moves::codes::calling` meets its contract: somebody must run before the number is looked at. Assumes nothing.
+-- `outcomes::codes::calling` meets its contract: somebody must run before the number is looked at. Assumes nothing.
 use mathlib.Core.Path.{refl}
 use Rattle.model.proofs.Tests.{eqb-yes, eqb-no}
 use borrow.Author.Needs.{needs}
-use Rattle.moves.proofs.codes.calling.Statement.{statement}
-use Rattle.moves.proofs.codes.calling.Tie as tie
+use Rattle.outcomes.proofs.codes.calling.Statement.{statement}
+use Rattle.outcomes.proofs.codes.calling.Tie as tie
 
 returns : tie.Need-returns
 returns c = record { code = rw (eqb-yes (c .before .args .running) 0 (c .if1 .taken)) refl }

@@ -1,15 +1,15 @@
--- `moves::dispatch` meets its contract: the first of ready runs, and is no longer failed; where it was not, there is nothing to clear. Assumes nothing.
+-- `outcomes::dispatch` meets its contract: the first of ready runs, and is no longer failed; where it was not, there is nothing to clear. Assumes nothing.
 use native.Mathlib.Omega.{arith}
 use mathlib.Core.Path.{refl}
 use Rattle.model.specs.Queue.Queue.{ready}
 use Rattle.model.specs.Field.Field.{failed}
 use Rattle.area.proofs.Puts.{becomes-then}
 use Rattle.area.proofs.Whole.{counts-in}
 use Rattle.moves.proofs.Queues.{first-process, first-small, dispatch-none, dispatch-first, dispatch-kept}
 use Rattle.moves.proofs.Shared.{taking}
 use borrow.Author.Needs.{needs}
-use Rattle.moves.proofs.dispatch.Statement.{statement}
-use Rattle.moves.proofs.dispatch.Tie as tie
+use Rattle.outcomes.proofs.dispatch.Statement.{statement}
+use Rattle.outcomes.proofs.dispatch.Tie as tie
 
 ready-at-requires : tie.Need-ready-at-requires
 ready-at-requires c κs = search needs

@@ -1,8 +1,8 @@
--- `moves::codes::calling_two` meets its contract: the code of the first number, or where it has none that of the second. Assumes nothing.
-use Rattle.moves.proofs.Outcomes.{two-by-first, two-by-second}
+-- `outcomes::codes::calling_two` meets its contract: the code of the first number, or where it has none that of the second. Assumes nothing.
+use Rattle.outcomes.proofs.Outcomes.{two-by-first, two-by-second}
 use borrow.Author.Needs.{needs}
-use Rattle.moves.proofs.codes.calling_two.Statement.{statement}
-use Rattle.moves.proofs.codes.calling_two.Tie as tie
+use Rattle.outcomes.proofs.codes.calling_two.Statement.{statement}
+use Rattle.outcomes.proofs.codes.calling_two.Tie as tie
 
 calling-requires : tie.Need-calling-requires
 calling-requires c κs = search needs

@@ -1,8 +1,8 @@
--- `moves::codes::missing` meets its contract: 0 and what is above the n are none of them. Assumes nothing.
+-- `outcomes::codes::missing` meets its contract: 0 and what is above the n are none of them. Assumes nothing.
 use mathlib.Core.Path.{refl}
 use Rattle.moves.proofs.Numbers.{zero-outside, above-outside, is-inside, not-outside}
-use Rattle.moves.proofs.codes.missing.Statement.{statement}
-use Rattle.moves.proofs.codes.missing.Tie as tie
+use Rattle.outcomes.proofs.codes.missing.Statement.{statement}
+use Rattle.outcomes.proofs.codes.missing.Tie as tie
 
 returns : tie.Need-returns
 returns c = record { code = rw (zero-outside (c .before .args .n) (c .if1 .taken)) refl }
