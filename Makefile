@@ -32,7 +32,7 @@ target/%: examples/%.c lib include/kernel.h
 run: rehearse
 	target/bin/rehearse < $(SCRIPT) | paste $(SCRIPT) -
 
-# rehearse first: it takes every crate but replay, and both cores
+# rehearse first: it takes every crate but kernel, replay and table, and both cores
 test: rehearse
 	$(MAKE) target/nine target/probe
 	target/nine | diff examples/nine.txt -

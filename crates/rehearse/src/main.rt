@@ -1,46 +1,13 @@
 // Rehearse: calls from standard input, one a line, performed on an area of 8,192 words, each answer a line. Assumes nothing.
 ghost use Prim.Native.Nat.{_+_, _<_, _≤_};
-ghost use lib.ListN.{length, take};
-ghost use Rattle.script.specs.Line.{meaning};
+ghost use lib.ListN.{length};
 ghost use Rattle.print.specs.Print.{longest};
-ghost use Rattle.rehearse.specs.Serve.{Serves, Within};
-use script::Parsed;
+ghost use Rattle.rehearse.specs.Turns.{Within};
 
 // What one read leads to: more input, or its end, with the bytes of the open line.
 enum Turn {
     More(usize),
     Done(usize),
-}
-
-// One whole line: its call is performed, and its answer's line put at the front of `out`.
-fn serve(
-    line: &[u8],
-    table: &mut [u16],
-    bytes: &mut [u8],
-    area: &mut [u16],
-    out: &mut [u8],
-) -> usize
-    requires { ⌜ 8192 ≤ length (now table) ⌝ }
-    requires { ⌜ 8192 ≤ length (now bytes) ⌝ }
-    requires { ⌜ longest ≤ length (now out) ⌝ }
-    ensures { λ r. ⌜ r ≤ length (now (out .entry)) ⌝ }
-    ensures { λ r. ⌜ Serves (meaning (now (line .entry))) (now (area .entry)) (now (area .exit)) (take r (now (out .exit))) ⌝ }
-{
-    match script::parse(line, table, bytes) {
-        Parsed::Call(call) => {
-            let answer = monitor::perform(area, call);
-            print::line(answer, out)
-        }
-        Parsed::Start(shape, count) => {
-            let answer = start::start(area, shape, &bytes[..count]);
-            print::line(answer, out)
-        }
-        Parsed::Nothing => {
-            out[0] = b'?';
-            out[1] = b'\n';
-            2
-        }
-    }
 }
 
 // One whole line, its answer behind the `full` bytes that wait; they are written where no further answer has room.
@@ -57,7 +24,7 @@ fn line_done(
     requires { ⌜ full + longest ≤ length (now out) ⌝ }
     ensures { λ r. ⌜ r + longest ≤ length (now (out .entry)) ⌝ }
 {
-    let n = serve(line, table, bytes, area, &mut out[full..]);
+    let n = serve::serve(line, table, bytes, area, &mut out[full..]);
     let end = full + n;
     if out.len() - end < print::LONGEST {
         io::write_all(1, &out[..end]);

@@ -6,9 +6,9 @@ use lib.ListN.{length-set, set, take}
 use lib.Seq.{length-take-le}
 use Rattle.script.specs.Line.{meaning}
 use borrow.Author.Needs.{needs}
-use Rattle.rehearse.proofs.Lines.{start-room, served-call, served-start, served-none, question}
-use Rattle.rehearse.proofs.serve.Statement.{statement}
-use Rattle.rehearse.proofs.serve.Tie as tie
+use Rattle.serve.proofs.Lines.{start-room, served-call, served-start, served-none, question}
+use Rattle.serve.proofs.serve.Statement.{statement}
+use Rattle.serve.proofs.serve.Tie as tie
 
 parse-requires : tie.Need-parse-requires
 parse-requires c κs = search needs

@@ -44,9 +44,9 @@ use Rattle.kernel.proofs.Demands.{demand2, run-crossed}
 use Rattle.script.specs.Line.{Meaning, meaning}
 use Rattle.script.specs.Line.Meaning.{call, start as begins}
 use Rattle.print.specs.Print.{printed}
-use Rattle.rehearse.specs.Serve.{Serves}
-use Rattle.rehearse.specs.Table.{Question, startLine, rows, zeros, Started, Played, Comes, AllCome, must, Table}
-use Rattle.rehearse.specs.Table.Question.{typed, words, room, asked}
+use Rattle.serve.specs.Serve.{Serves}
+use Rattle.table.specs.Table.{Question, startLine, rows, zeros, Started, Played, Comes, AllCome, must, Table}
+use Rattle.table.specs.Table.Question.{typed, words, room, asked}
 
 -- ---- the clock's word may be set to any time
 

@@ -1,5 +1,5 @@
 -- 01's whole table, of what C calls and of Rehearse: what each row says comes from exports and lines that keep their promises, and nothing else
--- does. All rows are one fact, `whole-table` (`crates/rehearse/proofs/Table.antt`); beside it stands that each area on which a row makes a call
+-- does. All rows are one fact, `whole-table` (`crates/table/proofs/Table.antt`); beside it stands that each area on which a row makes a call
 -- is sound. Start is asked on zeros. Assumes nothing.
 use Prim.Native.Nat.{ℕ, _%_}
 use Prim.Native.String.{String}
@@ -23,7 +23,7 @@ use Rattle.wire.specs.Wire.{answerOf}
 use Rattle.kernel.specs.Exports.{Begins, Crosses}
 use Rattle.script.specs.Line.{meaning}
 use Rattle.script.specs.Line.Meaning.{call}
-use Rattle.rehearse.specs.Serve.{Serves}
+use Rattle.serve.specs.Serve.{Serves}
 
 -- ---- the rows
 

@@ -16,7 +16,7 @@ use Rattle.script.specs.Line.{Meaning}
 use Rattle.script.specs.Line.Meaning.{call, none}
 use Rattle.print.specs.Print.{printed, longest}
 use Rattle.script.specs.Read.{Tells}
-use Rattle.rehearse.specs.Serve.{Serves}
+use Rattle.serve.specs.Serve.{Serves}
 
 -- what a line of this meaning was read as, and Start's bytes
 module _ (r : Parsed) (bytes : List ℕ) (m : Meaning) (t : Tells r bytes m) where

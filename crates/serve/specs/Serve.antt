@@ -1,5 +1,5 @@
 -- What Rehearse does with a line: the area and the line that comes out. Assumes nothing.
-use Prim.Native.Nat.{ℕ, _≤_}
+use Prim.Native.Nat.{ℕ}
 use mathlib.Core.Path.{_≡_}
 use mathlib.Core.List.{List}
 use Rattle.model.specs.Text.{bytesOf}
@@ -9,16 +9,9 @@ use Rattle.monitor.specs.Calls.{Performs}
 use Rattle.script.specs.Line.{Meaning}
 use Rattle.script.specs.Line.Meaning.{call, start, none}
 use Rattle.print.specs.Print.{printed}
-use Rattle.rehearse.specs.declared.Turn.{Turn}
-use Rattle.rehearse.specs.declared.Turn.the-variants.{More, Done}
 
 -- a call and Start are performed, and their answer is printed; any other line prints ? and changes no word
 abbrev pub Serves : Meaning → List ℕ → List ℕ → List ℕ → Type 0
 Serves (call c) old new out = (a : Answer) × (Performs c old new a × (out ≡ printed a))
 Serves (start n bytes) old new out = (a : Answer) × (Starts n bytes old new a × (out ≡ printed a))
 Serves none old new out = (new ≡ old) × (out ≡ bytesOf "?\n")
-
--- the open line's bytes are within its room
-abbrev pub Within : Turn → ℕ → Type 0
-Within (More n) room = n ≤ room
-Within (Done n) room = n ≤ room
