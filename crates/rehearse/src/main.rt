@@ -1,5 +1,5 @@
 // Rehearse: calls from standard input, one a line, performed on an area of 8,192 words, each answer a line. Assumes nothing.
-ghost use Prim.Native.Nat.{_+_, _<_, _≤_};
+ghost use Prim.Native.Nat.{_+_, _≤_};
 ghost use lib.ListN.{length};
 ghost use Rattle.print.specs.Print.{longest};
 ghost use Rattle.rehearse.specs.Turns.{Within};

@@ -37,7 +37,7 @@ fn rings(
                 return BROKEN;
             }
         } else {
-            // ten bits, as a compiler sees too: past the test it reads holder and tail without a mask
+            // masked, P is as it was, and a compiler sees that holder and tail have ten bits
             if !heads::in_order(processes & links::MASK, kind, w, v) {
                 return BROKEN;
             }
