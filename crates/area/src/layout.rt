@@ -1,4 +1,4 @@
-// The layout as the code has it: where the words stand and how much each part of a word counts, each named once. The words of a record and the parts of a link that make rings are ring's. specs/Layout.antt is what it is held to. Assumes nothing.
+// The layout as the code has it: where the words stand and how much each part of a word counts, each named once. The words of a record and the parts of a link that make rings are links's. specs/Layout.antt is what it is held to. Assumes nothing.
 
 // ---- words
 

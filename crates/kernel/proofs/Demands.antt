@@ -13,13 +13,13 @@ use Rattle.area.specs.Sound.{Sound}
 use Rattle.area.proofs.Agreeing.{agree-back, sound-same}
 use Rattle.start.specs.Start.{Starts}
 use Rattle.monitor.specs.Calls.{Performs, ListsOn, TellsOn, NearestOn}
-use Rattle.wire.specs.Wire.{packed, answerOf, listedOf, dueOf, nearestOf}
+use Rattle.wire.specs.Wire.{packed, answerOf, reportOf, nearestOf}
 use Rattle.monitor.specs.History.{Run}
 use Rattle.monitor.specs.History.Run.{none, then}
 use Rattle.monitor.proofs.History.{run-ends}
-use Rattle.wire.proofs.Wire.{read-answer, read-listed, read-due, read-nearest}
+use Rattle.wire.proofs.Wire.{read-answer, read-report, read-nearest}
 use Rattle.monitor.proofs.Promises.{performs-spares, starts-spares, performs-keeps, starts-keeps, performs-alike, starts-alike}
-use Rattle.monitor.proofs.Readings.{lists-spares, lists-alike, tells-spares, tells-alike, nearest-spares, nearest-alike}
+use Rattle.monitor.proofs.Readings.{reads-spares, reads-alike, lists-determined, tells-determined, nearest-spares, nearest-alike}
 use Rattle.kernel.specs.Exports.{Conveys, Crosses, Begins, Writes, Dues, Nears, Judges}
 use Rattle.kernel.specs.Demands.{Demand1, Demand2, Demand3, Beyond}
 
@@ -35,11 +35,11 @@ crossed C = kept C (read-answer (C .carries))
 begun : {n : Shape} {bytes old new : List ℕ} {r : ℕ} → Begins n bytes old new r → Starts n bytes old new (answerOf r)
 begun C = kept C (read-answer (C .carries))
 
-listed : {kind number : ℕ} {ws old new : List ℕ} {r : ℕ} → Writes kind number ws old new r → ListsOn kind number ws old new (listedOf r)
-listed C = kept C (read-listed (C .carries))
+listed : {kind number : ℕ} {ws old new : List ℕ} {r : ℕ} → Writes kind number ws old new r → ListsOn kind number ws old new (reportOf 10 r)
+listed C = kept C (read-report 10 (C .carries))
 
-told : {k : ℕ} {ws old new : List ℕ} {r : ℕ} → Dues k ws old new r → TellsOn k ws old new (dueOf r)
-told C = kept C (read-due (C .carries))
+told : (k : ℕ) {ws old new : List ℕ} {r : ℕ} → Dues k ws old new r → TellsOn k ws old new (reportOf 20 r)
+told k C = kept C (read-report 20 (C .carries))
 
 neared : {ws : List ℕ} {r : ℕ} → Nears ws r → NearestOn ws (nearestOf r)
 neared C = kept C (read-nearest (C .carries))
@@ -60,14 +60,14 @@ pub demand1 : Demand1
 demand1 = record {
   unsound-call = λ C u. crossed C .unsound u;
   unsound-list = λ W u. listed W .unsound u;
-  unsound-due = λ D u. told D .unsound u;
+  unsound-due = λ k D u. told k D .unsound u;
   unsound-nearest = λ N u. neared N .unsound u;
   unsound-sound = not-sound;
   overwrites = λ B D la lb. let s = starts-alike la lb (B .keeps) (D .keeps) in (same-number B D (s .0), λ z. s .1 (ap {A = Answer} (λ a. a .code) (read-answer (B .carries)) ∙ z));
   refused-call = λ C. performs-spares (crossed C);
   refused-start = λ B. starts-spares (begun B);
-  refused-list = λ W. lists-spares (listed W);
-  refused-due = λ D. tells-spares (told D);
+  refused-list = λ W. reads-spares (lists-determined _ _) (listed W);
+  refused-due = λ k D. reads-spares (tells-determined k) (told k D);
   refused-nearest = λ N. nearest-spares (neared N);
 }
 
@@ -95,8 +95,8 @@ beyond = record {
   kept-call = λ C. performs-keeps (C .keeps);
   kept-start = λ B. starts-keeps (B .keeps);
   call = λ A C D. let p = performs-alike A (C .keeps) (D .keeps) in (same-number C D (p .0), p .1);
-  list = λ A C D. let p = lists-alike A (C .keeps) (D .keeps) in (same-number C D (p .0), p .1);
-  due = λ A C D. let p = tells-alike A (C .keeps) (D .keeps) in (same-number C D (p .0), p .1);
+  list = λ A C D. let p = reads-alike (lists-determined _ _) A (C .keeps) (D .keeps) in (same-number C D (p .0), p .1);
+  due = λ k A C D. let p = reads-alike (tells-determined k) A (C .keeps) (D .keeps) in (same-number C D (p .0), p .1);
   nearest = λ A C D. same-number C D (nearest-alike A (C .keeps) (D .keeps));
   sound = judged-alike;
 }

@@ -19,7 +19,7 @@ still-crossed ws k S new rs R = S new (map answerOf rs) (run-crossed R)
 
 pub on-time : OnTime
 on-time = record {
-  due = λ D h. wakes-crossed (told-wakes (demand2 .due D) h);
+  due = λ k D h. wakes-crossed (told-wakes k (demand2 .due k D) h);
   nearest = λ N o. wakes-crossed (nearest-wakes (demand2 .nearest N) o);
   before = λ {ws} {r} {k} N h. still-crossed ws k (still-before (demand2 .nearest N) h);
   never = λ {ws} k N z o. still-crossed ws k (still-ever (demand2 .nearest N) k z o);

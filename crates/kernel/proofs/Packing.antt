@@ -7,14 +7,13 @@ use mathlib.Core.List.{List}
 use Rattle.model.specs.declared.Shape.{Shape}
 use Rattle.model.specs.declared.Call.{Call}
 use Rattle.model.specs.declared.Answer.{Answer}
+use Rattle.model.specs.declared.Report.{Report}
 use Rattle.model.specs.Machine.{fieldsOf}
 use Rattle.area.specs.Sound.{Sound}
 use Rattle.start.specs.Start.{Starts}
-use Rattle.queues.specs.declared.listing.Listed.{Listed}
-use Rattle.timers.specs.declared.Told.{Told}
 use Rattle.timers.specs.declared.Earliest.{Earliest}
 use Rattle.monitor.specs.Calls.{Performs, ListsOn, TellsOn, NearestOn}
-use Rattle.wire.specs.Wire.{packed, Carries, listFields, dueFields, nearestFields, numberOf}
+use Rattle.wire.specs.Wire.{packed, Carries, reportFields, nearestFields, numberOf}
 use Rattle.wire.proofs.Wire.{Fit, carries}
 use Rattle.monitor.proofs.Promises.{performs-fits, starts-fits}
 use Rattle.monitor.proofs.Readings.{lists-fits, tells-fits, nearest-fits}
@@ -34,11 +33,11 @@ crosses {a = a} P e = record { answer = a; keeps = P; carries = carried P e }
 pub begins : {n : Shape} {bytes old new : List ℕ} {a : Answer} {r : ℕ} → Starts n bytes old new a → r ≡ numberOf a → Begins n bytes old new r
 begins {a = a} S e = conveys fieldsOf a S e (starts-fits S)
 
-pub writes : {kind number : ℕ} {ws old new : List ℕ} {l : Listed} {r : ℕ} → ListsOn kind number ws old new l → r ≡ packed 10 (listFields l) → Writes kind number ws old new r
-writes {l = l} L e = conveys listFields l L e (lists-fits L)
+pub writes : {kind number : ℕ} {ws old new : List ℕ} {a : Report} {r : ℕ} → ListsOn kind number ws old new a → r ≡ packed 10 (reportFields a) → Writes kind number ws old new r
+writes {a = a} L e = conveys reportFields a L e (lists-fits L)
 
-pub dues : {k : ℕ} {ws old new : List ℕ} {a : Told} {r : ℕ} → TellsOn k ws old new a → r ≡ packed 20 (dueFields a) → Dues k ws old new r
-dues {a = a} T e = conveys dueFields a T e (tells-fits T)
+pub dues : (k : ℕ) {ws old new : List ℕ} {a : Report} {r : ℕ} → TellsOn k ws old new a → r ≡ packed 20 (reportFields a) → Dues k ws old new r
+dues k {a = a} T e = conveys reportFields a T e (tells-fits k T)
 
 pub nears : {ws : List ℕ} {a : Earliest} {r : ℕ} → NearestOn ws a → r ≡ packed 20 (nearestFields a) → Nears ws r
 nears {a = a} N e = conveys nearestFields a N e (nearest-fits N)

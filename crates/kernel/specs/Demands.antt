@@ -9,14 +9,13 @@ use lib.ListN.{length, getD, take, drop}
 use Rattle.model.specs.declared.Shape.{Shape}
 use Rattle.model.specs.declared.Call.{Call}
 use Rattle.model.specs.Machine.{refusal}
+use Rattle.model.specs.Reports.{Refused}
 use Rattle.area.specs.Layout.{size}
 use Rattle.area.specs.Reading.{shapeOf, Agree}
 use Rattle.area.specs.Sound.{Sound}
 use Rattle.start.specs.Start.{Starts}
-use Rattle.queues.specs.Listing.{Unlisted}
-use Rattle.timers.specs.Telling.{Untold}
 use Rattle.monitor.specs.Calls.{Performs, ListsOn, TellsOn, NearestOn, Spares}
-use Rattle.wire.specs.Wire.{answerOf, listedOf, dueOf, nearestOf}
+use Rattle.wire.specs.Wire.{answerOf, reportOf, nearestOf}
 use Rattle.monitor.specs.History as history
 use Rattle.monitor.specs.Ticks.{WakesIn, Still}
 use Rattle.kernel.specs.Exports.{Crosses, Begins, Writes, Dues, Nears, Judges}
@@ -26,8 +25,8 @@ use Rattle.kernel.specs.Exports.{Crosses, Begins, Writes, Dues, Nears, J
 pub record Demand1 : Type 0 where
   -- an unsound area gets refusal 1 from each of the nine calls and from each read, and Sound says no
   pub unsound-call : {c : Call} {old new : List ℕ} {r : ℕ} → Crosses c old new r → (Sound old → ⊥) → (answerOf r ≡ refusal 1) × (new ≡ old)
-  pub unsound-list : {kind number : ℕ} {ws old new : List ℕ} {r : ℕ} → Writes kind number ws old new r → (Sound ws → ⊥) → Unlisted old new (listedOf r) 1
-  pub unsound-due : {k : ℕ} {ws old new : List ℕ} {r : ℕ} → Dues k ws old new r → (Sound ws → ⊥) → Untold old new (dueOf r) 1
+  pub unsound-list : {kind number : ℕ} {ws old new : List ℕ} {r : ℕ} → Writes kind number ws old new r → (Sound ws → ⊥) → Refused old new (reportOf 10 r) 1
+  pub unsound-due : (k : ℕ) {ws old new : List ℕ} {r : ℕ} → Dues k ws old new r → (Sound ws → ⊥) → Refused old new (reportOf 20 r) 1
   pub unsound-nearest : {ws : List ℕ} {r : ℕ} → Nears ws r → (Sound ws → ⊥) → nearestOf r ≡ record { code = 1; process = 0; left = 0 }
   pub unsound-sound : {ws : List ℕ} {r : ℕ} → Judges ws r → (Sound ws → ⊥) → r ≡ 0
   -- Start overwrites it: what an area long enough held makes no difference
@@ -36,16 +35,16 @@ pub record Demand1 : Type 0 where
   -- a refusal, whatever its code, answers zeros beside it and changes no word of the area or of the buffer
   pub refused-call : {c : Call} {old new : List ℕ} {r : ℕ} → Crosses c old new r → Spares (answerOf r) old new
   pub refused-start : {n : Shape} {bytes old new : List ℕ} {r : ℕ} → Begins n bytes old new r → Spares (answerOf r) old new
-  pub refused-list : {kind number : ℕ} {ws old new : List ℕ} {r : ℕ} → Writes kind number ws old new r → listedOf r .code ≢ 0 → Unlisted old new (listedOf r) (listedOf r .code)
-  pub refused-due : {k : ℕ} {ws old new : List ℕ} {r : ℕ} → Dues k ws old new r → dueOf r .code ≢ 0 → Untold old new (dueOf r) (dueOf r .code)
+  pub refused-list : {kind number : ℕ} {ws old new : List ℕ} {r : ℕ} → Writes kind number ws old new r → reportOf 10 r .code ≢ 0 → Refused old new (reportOf 10 r) (reportOf 10 r .code)
+  pub refused-due : (k : ℕ) {ws old new : List ℕ} {r : ℕ} → Dues k ws old new r → reportOf 20 r .code ≢ 0 → Refused old new (reportOf 20 r) (reportOf 20 r .code)
   pub refused-nearest : {ws : List ℕ} {r : ℕ} → Nears ws r → nearestOf r .code ≢ 0 → nearestOf r ≡ record { code = nearestOf r .code; process = 0; left = 0 }
 
 -- 2. What is read back out of an export's number is the answer that the rules give, with every word as they give it
 pub record Demand2 : Type 0 where
   pub call : {c : Call} {old new : List ℕ} {r : ℕ} → Crosses c old new r → Performs c old new (answerOf r)
   pub start : {n : Shape} {bytes old new : List ℕ} {r : ℕ} → Begins n bytes old new r → Starts n bytes old new (answerOf r)
-  pub list : {kind number : ℕ} {ws old new : List ℕ} {r : ℕ} → Writes kind number ws old new r → ListsOn kind number ws old new (listedOf r)
-  pub due : {k : ℕ} {ws old new : List ℕ} {r : ℕ} → Dues k ws old new r → TellsOn k ws old new (dueOf r)
+  pub list : {kind number : ℕ} {ws old new : List ℕ} {r : ℕ} → Writes kind number ws old new r → ListsOn kind number ws old new (reportOf 10 r)
+  pub due : (k : ℕ) {ws old new : List ℕ} {r : ℕ} → Dues k ws old new r → TellsOn k ws old new (reportOf 20 r)
   pub nearest : {ws : List ℕ} {r : ℕ} → Nears ws r → NearestOn ws (nearestOf r)
   pub sound : {ws : List ℕ} {r : ℕ} → Judges ws r → (r ≡ 1) ↔ Sound ws
 
@@ -56,7 +55,7 @@ Demand3 = history.Demand3 answerOf Begins Crosses
 -- A sleeping probe never sleeps through a wake: whoever is told with d ticks left, by either read, wakes in the d-th Tick and in no earlier one;
 -- and before the nearest's tick no Tick moves anybody, nor does any where there is no nearest
 pub record OnTime : Type 0 where
-  pub due : {k : ℕ} {ws old new : List ℕ} {r i : ℕ} → Dues k ws old new r → i < dueOf r .count → WakesIn Crosses ws (getD new (2 * i) 0) (getD new (2 * i + 1) 0)
+  pub due : (k : ℕ) {ws old new : List ℕ} {r i : ℕ} → Dues k ws old new r → i < reportOf 20 r .count → WakesIn Crosses ws (getD new (2 * i) 0) (getD new (2 * i + 1) 0)
   pub nearest : {ws : List ℕ} {r : ℕ} → Nears ws r → nearestOf r .process ≢ 0 → WakesIn Crosses ws (nearestOf r .process) (nearestOf r .left)
   pub before : {ws : List ℕ} {r k : ℕ} → Nears ws r → k < nearestOf r .left → Still Crosses ws k
   pub never : {ws : List ℕ} {r : ℕ} (k : ℕ) → Nears ws r → nearestOf r .code ≡ 0 → nearestOf r .process ≡ 0 → Still Crosses ws k
@@ -69,6 +68,6 @@ pub record Beyond : Type 0 where
   pub call : {c : Call} {a b a′ b′ : List ℕ} {r s : ℕ} → Agree a b → Crosses c a a′ r → Crosses c b b′ s
       → (r ≡ s) × (take (size (shapeOf a)) a′ ≡ take (size (shapeOf a)) b′)
   pub list : {kind number : ℕ} {a b old new other : List ℕ} {r s : ℕ} → Agree a b → Writes kind number a old new r → Writes kind number b old other s → (r ≡ s) × (new ≡ other)
-  pub due : {k : ℕ} {a b old new other : List ℕ} {r s : ℕ} → Agree a b → Dues k a old new r → Dues k b old other s → (r ≡ s) × (new ≡ other)
+  pub due : (k : ℕ) {a b old new other : List ℕ} {r s : ℕ} → Agree a b → Dues k a old new r → Dues k b old other s → (r ≡ s) × (new ≡ other)
   pub nearest : {a b : List ℕ} {r s : ℕ} → Agree a b → Nears a r → Nears b s → r ≡ s
   pub sound : {a b : List ℕ} {r s : ℕ} → Agree a b → Judges a r → Judges b s → r ≡ s

@@ -9,7 +9,7 @@ use Rattle.model.specs.Machine.{fieldsOf}
 use Rattle.area.specs.Sound.{Sound}
 use Rattle.start.specs.Start.{Starts}
 use Rattle.monitor.specs.Calls.{Performs, ListsOn, TellsOn, NearestOn}
-use Rattle.wire.specs.Wire.{Carries, listFields, dueFields, nearestFields}
+use Rattle.wire.specs.Wire.{Carries, reportFields, nearestFields}
 
 -- r carries an answer as promised: it is the number of the answer's fields, w bits each, and every field comes back out of it
 pub record Conveys {A : Type 0} (w : ℕ) (fields : A → List ℕ) (promised : A → Type 0) (r : ℕ) : Type 0 where
@@ -27,11 +27,11 @@ Begins n bytes old new r = Conveys 10 fieldsOf (Starts n bytes old new) r
 
 -- List: refused by 1, 7, 5 in this order, the buffer is as it was; else the queue stands at its front, and the rest is as it was
 abbrev pub Writes : ℕ → ℕ → List ℕ → List ℕ → List ℕ → ℕ → Type 0
-Writes kind number ws old new r = Conveys 10 listFields (ListsOn kind number ws old new) r
+Writes kind number ws old new r = Conveys 10 reportFields (ListsOn kind number ws old new) r
 
 -- who is due within k ticks: refused by 1, 5 in this order, the buffer is as it was; else they stand at its front, and the rest is as it was
 abbrev pub Dues : ℕ → List ℕ → List ℕ → List ℕ → ℕ → Type 0
-Dues k ws old new r = Conveys 20 dueFields (TellsOn k ws old new) r
+Dues k ws old new r = Conveys 20 reportFields (TellsOn k ws old new) r
 
 -- who is the nearest: refused by 1 alone
 abbrev pub Nears : List ℕ → ℕ → Type 0

@@ -136,7 +136,7 @@ pub extern "C" fn kernel_list(area: &[u16], kind: u16, number: u16, buffer: &mut
 pub extern "C" fn kernel_due(area: &[u16], ticks: u16, buffer: &mut [u16]) -> u64
     ensures { λ r. ⌜ Dues ticks (now (area .entry)) (now (buffer .entry)) (now (buffer .exit)) r ⌝ }
 {
-    wire::pack_due(monitor::due(area, Ticks(ticks), buffer))
+    wire::pack_report(monitor::due(area, Ticks(ticks), buffer))
 }
 
 #[no_mangle]

@@ -13,3 +13,4 @@ pub mod Loops
 pub mod Many
 pub mod Rules
 pub mod Ticking
+pub mod Reports

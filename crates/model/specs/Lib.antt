@@ -5,6 +5,7 @@ pub mod Machine
 pub mod Ledger
 pub mod Valid
 pub mod Timers
+pub mod Reports
 pub mod History
 pub mod Table
 pub mod Examples

@@ -59,3 +59,9 @@ pub struct Answer {
     pub moved: u16,
     pub ahead: u16,
 }
+
+// What a read into a lent buffer answers: its code, and how much it wrote there.
+pub struct Report {
+    pub code: u16,
+    pub count: u16,
+}

@@ -2,13 +2,14 @@
 -- Assumes nothing.
 use Prim.Native.Nat.{ℕ, _≤_}
 use native.Mathlib.Omega.{arith}
-use mathlib.Core.Path.{_≡_, refl, sym, _∙_}
+use mathlib.Core.Path.{_≡_, refl, sym, ap, _∙_}
 use mathlib.Core.Bool.{Bool, true, false, not, true≢false}
 use mathlib.Core.List.{List}
 use lib.ListN.{length}
 use Rattle.model.specs.declared.Shape.{Shape}
 use Rattle.model.specs.declared.Call.{Call}
 use Rattle.model.specs.declared.Answer.{Answer}
+use Rattle.model.specs.declared.Report.{Report}
 use Rattle.model.specs.Machine.{State, model, refusal}
 use Rattle.model.specs.Valid.{Valid}
 use Rattle.model.proofs.Tests.{not-true, not-false}
@@ -19,12 +20,9 @@ use Rattle.area.specs.Holds.{Holds, Held, Becomes}
 use Rattle.area.proofs.Whole.{stored-write}
 use Rattle.area.proofs.States.{sound-image}
 use Rattle.area.specs.Calls.{Stands, Does}
-use Rattle.queues.specs.declared.listing.Listed.{Listed}
-use Rattle.queues.specs.Listing.{Lists}
-use Rattle.timers.specs.declared.Told.{Told}
 use Rattle.timers.specs.declared.Earliest.{Earliest}
-use Rattle.timers.specs.Telling.{Tells, nearestIn}
-use Rattle.monitor.specs.Calls.{Performs, ListsOn, TellsOn, NearestOn}
+use Rattle.timers.specs.Telling.{nearestIn}
+use Rattle.monitor.specs.Calls.{Performs, ReadsOn, NearestOn}
 
 -- an area that has become one of a state is every word of it
 pub becomes-write : {n : Shape} {old new : List ℕ} {s : State model} → Becomes n old new s → new ≡ write n s old
@@ -56,11 +54,8 @@ module _ {old : List ℕ} {r : Bool} (h : Checked old r) (k : not r ≡ true) wh
   pub performs-not : {c : Call} {a : Answer} → a ≡ refusal 1 → Performs c old old a
   performs-not e = record { unsound = λ z. (e, refl); sound = λ S. absurd (not-sound S) }
 
-  pub lists-not : {kind number : ℕ} {buffer : List ℕ} {l : Listed} → l .code ≡ 1 → l .count ≡ 0 → ListsOn kind number old buffer buffer l
-  lists-not c d = record { unsound = λ z. record { code = c; count = d; buffer = refl }; sound = λ S. absurd (not-sound S) }
-
-  pub tells-not : {ticks : ℕ} {buffer : List ℕ} {t : Told} → t .code ≡ 1 → t .count ≡ 0 → TellsOn ticks old buffer buffer t
-  tells-not c d = record { unsound = λ z. record { code = c; count = d; buffer = refl }; sound = λ S. absurd (not-sound S) }
+  pub reads-not : {told : Shape → State model → List ℕ → List ℕ → Report → Type 0} {buffer : List ℕ} {l : Report} → l ≡ record { code = 1; count = 0 } → ReadsOn told old buffer buffer l
+  reads-not e = record { unsound = λ z. record { code = ap {A = Report} (λ l. l .code) e; count = ap {A = Report} (λ l. l .count) e; buffer = refl }; sound = λ S. absurd (not-sound S) }
 
   pub nearest-not : {e : Earliest} → e ≡ record { code = 1; process = 0; left = 0 } → NearestOn old e
   nearest-not d = record { unsound = λ z. d; sound = λ S. absurd (not-sound S) }
@@ -83,11 +78,8 @@ module _ {old : List ℕ} {r : Bool} (h : Checked old r) (k : not r ≡ false) w
     pub performs-at : {c : Call} {new : List ℕ} {a : Answer} → ((s : State model) → Holds n old s → Valid n s → Does c n old new s a) → Performs c old new a
     performs-at d = performs checked ((rw said at d) (stateOf old) (own-holds checked) (checked .valid))
 
-    pub lists-at : {kind number : ℕ} {buffer new : List ℕ} {l : Listed} → ((s : State model) → Holds n old s → Lists kind number n s buffer new l) → ListsOn kind number old buffer new l
-    lists-at d = record { unsound = λ z. absurd (z checked); sound = λ z. (rw said at d) (stateOf old) (own-holds checked) }
-
-    pub tells-at : {ticks : ℕ} {buffer new : List ℕ} {t : Told} → ((s : State model) → Holds n old s → Valid n s → Tells ticks n s buffer new t) → TellsOn ticks old buffer new t
-    tells-at d = record { unsound = λ z. absurd (z checked); sound = λ z. (rw said at d) (stateOf old) (own-holds checked) (checked .valid) }
+    pub reads-at : {told : Shape → State model → List ℕ → List ℕ → Report → Type 0} {buffer new : List ℕ} {l : Report} → ((s : State model) → Holds n old s → Valid n s → told n s buffer new l) → ReadsOn told old buffer new l
+    reads-at d = record { unsound = λ z. absurd (z checked); sound = λ z. (rw said at d) (stateOf old) (own-holds checked) (checked .valid) }
 
     pub nearest-at : {e : Earliest} → ((s : State model) → Holds n old s → Valid n s → e ≡ nearestIn n s) → NearestOn old e
     nearest-at d = record { unsound = λ z. absurd (z checked); sound = λ z. (rw said at d) (stateOf old) (own-holds checked) (checked .valid) }

@@ -1,7 +1,8 @@
 -- What follows from the promise of a read alone, for List, for who is due and for who is the nearest. What a read tells is one list of numbers,
 -- its fields and then its buffer, which a sound area's state determines: so a refusal spares the buffer, areas that agree below their size are
--- told alike, and each field has the bits that it crosses in. Assumes nothing.
-use Prim.Native.Nat.{ℕ, _*_, _^_, _≤_, _<_}
+-- told alike, and each field has the bits that it crosses in. For a read into a buffer these are laws of what its promise says of each state
+-- (`Determined`). Assumes nothing.
+use Prim.Native.Nat.{ℕ, _^_, _≤_, _<_}
 use native.Mathlib.Omega.{arith}
 use mathlib.Core.Path.{_≡_, refl, sym, ap, _∙_}
 use mathlib.Core.Logic.{_≢_}
@@ -11,9 +12,11 @@ use lib.Dec.{ltb}
 use lib.ListN.{length, getD, take, drop}
 use borrow.Author.Tests.{ltb-true, ltb-false}
 use Rattle.model.specs.declared.Shape.{Shape}
+use Rattle.model.specs.declared.Report.{Report}
 use Rattle.model.specs.Queue.{All}
 use Rattle.model.specs.Machine.{State, model}
 use Rattle.model.specs.Timers.{Entry, dueWithin, firstEntry, nearest}
+use Rattle.model.specs.Reports.{Refused, Reports}
 use Rattle.model.proofs.Tests.{inside-bounds}
 use Rattle.model.proofs.Places.{queue-length}
 use Rattle.model.proofs.Ticking.{left-most, Exact, due-exact}
@@ -21,15 +24,13 @@ use Rattle.area.specs.Reading.{shapeOf, stateOf, Agree}
 use Rattle.area.specs.Sound.{Sound}
 use Rattle.area.proofs.Whole.{counts-in}
 use Rattle.area.proofs.Agreeing.{shape-same, state-same, sound-same}
-use Rattle.queues.specs.declared.listing.Listed.{Listed}
-use Rattle.queues.specs.Listing.{queueBy, isQueue, Unlisted, Lists}
-use Rattle.timers.specs.declared.Told.{Told}
+use Rattle.queues.specs.Listing.{queueBy, isQueue, Lists}
 use Rattle.timers.specs.declared.Earliest.{Earliest}
-use Rattle.timers.specs.Telling.{inWords, Untold, Tells, nearestIn}
+use Rattle.timers.specs.Telling.{inWords, Tells, nearestIn}
 use Rattle.timers.proofs.Dues.{count-all, due-few}
-use Rattle.monitor.specs.Calls.{ListsOn, TellsOn, NearestOn}
-use Rattle.wire.specs.Wire.{listFields, dueFields, nearestFields}
-use Rattle.wire.proofs.Wire.{Fit, listedFrom, toldFrom, earliestFrom}
+use Rattle.monitor.specs.Calls.{ReadsOn, ListsOn, TellsOn, NearestOn}
+use Rattle.wire.specs.Wire.{reportFields, nearestFields}
+use Rattle.wire.proofs.Wire.{Fit, reportFrom, earliestFrom}
 use Rattle.monitor.proofs.Promises.{settle, lists?, unsound-same, fit?}
 
 -- ---- how much is told
@@ -79,126 +80,115 @@ spares {rest = rest} {ws} {xs} R k h =
 -- ---- a read into a buffer: code and count, and then the buffer
 
 -- what holds of both holds of either
-either : (P : List ℕ → Type 0) (b : Bool) (xs ys : List ℕ) → P xs → P ys → P (cond b xs ys)
-either P true xs ys h k = h
-either P false xs ys h k = k
+either : {A : Type 0} (P : A → Type 0) (b : Bool) (x y : A) → P x → P y → P (cond b x y)
+either P true x y h k = h
+either P false x y h k = k
 
--- k things in so many words: too many for the buffer, or they stand at its front
-abbrev into : List ℕ → ℕ → ℕ → List ℕ → List ℕ
-into old words k xs = cond (ltb (length old) words) (5 ∷ 0 ∷ old) (0 ∷ k ∷ (xs ++ drop words old))
+-- what is to be told: a refusal by k, or xs, m of them by the count
+pub data Outcome : Type 0 where
+  refuse : (k : ℕ) → Outcome
+  tell : (m : ℕ) (xs : List ℕ) → Outcome
 
--- too short a buffer stays as it was
-into-spares : (old : List ℕ) (words k : ℕ) (xs : List ℕ) → Spared (0 ∷ old) (into old words k xs)
-into-spares old words k xs = either (Spared (0 ∷ old)) (ltb (length old) words) (5 ∷ 0 ∷ old) (0 ∷ k ∷ (xs ++ drop words old)) (λ h. refl) (λ h. absurd (h refl))
+-- xs are too long for the buffer, or they stand at its front
+abbrev pub into : List ℕ → Outcome → List ℕ
+into old (refuse k) = k ∷ 0 ∷ old
+into old (tell m xs) = cond (ltb (length old) (length xs)) (5 ∷ 0 ∷ old) (0 ∷ m ∷ (xs ++ drop (length xs) old))
+
+-- a refusal spares the buffer
+into-spares : (old : List ℕ) (o : Outcome) → Spared (0 ∷ old) (into old o)
+into-spares old (refuse k) = λ h. refl
+into-spares old (tell m xs) = either (Spared (0 ∷ old)) (ltb (length old) (length xs)) (5 ∷ 0 ∷ old) (0 ∷ m ∷ (xs ++ drop (length xs) old)) (λ h. refl) (λ h. absurd (h refl))
+
+-- its code, or the count, has w bits
+abbrev Slim : ℕ → Outcome → Type 0
+Slim w (refuse k) = k < 2 ^ w
+Slim w (tell m xs) = m < 2 ^ w
 
 -- code and count have w bits
 abbrev Counted : ℕ → List ℕ → Type 0
 Counted w xs = Fit w (take 2 xs)
 
--- they have them where so many things can be counted in them
-into-counted : (w : ℕ) (old : List ℕ) (words k : ℕ) (xs : List ℕ) → 5 < 2 ^ w → k < 2 ^ w → Counted w (into old words k xs)
-into-counted w old words k xs h l = either (Counted w) (ltb (length old) words) (5 ∷ 0 ∷ old) (0 ∷ k ∷ (xs ++ drop words old)) (h, (omega arith, tt)) (omega arith, (l, tt))
+into-counted : (w : ℕ) (old : List ℕ) (o : Outcome) → 5 < 2 ^ w → Slim w o → Counted w (into old o)
+into-counted w old (refuse k) h l = (l, (omega arith, tt))
+into-counted w old (tell m xs) h l = either (Counted w) (ltb (length old) (length xs)) (5 ∷ 0 ∷ old) (0 ∷ m ∷ (xs ++ drop (length xs) old)) (h, (omega arith, tt)) (omega arith, (l, tt))
+
+-- what a refusal and a report say, as one list of numbers
+module _ {old new : List ℕ} {r : Report} where
+  refused-said : {k : ℕ} → Refused old new r k → r .code ∷ r .count ∷ new ≡ into old (refuse k)
+  refused-said u = λ i. u .code i ∷ u .count i ∷ u .buffer i
+
+  pub reports-said : (m : ℕ) (xs : List ℕ) → Reports m xs old new r → r .code ∷ r .count ∷ new ≡ into old (tell m xs)
+  reports-said m xs R = go (ltb (length old) (length xs)) refl
+    where
+      go : (b : Bool) → ltb (length old) (length xs) ≡ b → r .code ∷ r .count ∷ new ≡ cond b (5 ∷ 0 ∷ old) (0 ∷ m ∷ (xs ++ drop (length xs) old))
+      go true e = refused-said (R .short (ltb-true (length old) (length xs) e))
+      go false e = let u = R .whole (ltb-false (length old) (length xs) e) in λ i. u .code i ∷ u .count i ∷ u .buffer i
+
+-- a promise of which the state determines all: it says the state's outcome
+pub record Determined (told : Shape → State model → List ℕ → List ℕ → Report → Type 0) : Type 0 where
+  pub outcome : Shape → State model → Outcome
+  pub said : (n : Shape) (s : State model) {old new : List ℕ} {r : Report} → told n s old new r → r .code ∷ r .count ∷ new ≡ into old (outcome n s)
+
+-- such is one that only reports
+abbrev pub reports-determined : (m : Shape → State model → ℕ) (xs : Shape → State model → List ℕ) → Determined (λ n s. Reports (m n s) (xs n s))
+reports-determined m xs = record { outcome = λ n s. tell (m n s) (xs n s); said = λ n s R. reports-said (m n s) (xs n s) R }
+
+module _ {told : Shape → State model → List ℕ → List ℕ → Report → Type 0} (D : Determined told) where
+  reads-read : {ws old new : List ℕ} {r : Report} → ReadsOn told ws old new r → Reads (1 ∷ 0 ∷ old) (λ n s. into old (D .outcome n s)) ws (r .code ∷ r .count ∷ new)
+  reads-read {ws} R = record { unsound = λ h. refused-said (R .unsound h); sound = λ S. D .said (shapeOf ws) (stateOf ws) (R .sound S) }
+
+  -- a refusal spares the buffer
+  pub reads-spares : {ws old new : List ℕ} {r : Report} → ReadsOn told ws old new r → r .code ≢ 0 → Refused old new r (r .code)
+  reads-spares {old = old} R h =
+      let e = spares (reads-read R) (λ n s. into-spares old (D .outcome n s)) h in
+      record { code = refl; count = ap (λ (x : List ℕ). getD x 0 0) e; buffer = ap (drop 1) e }
+
+  -- areas that agree below their size are told alike
+  pub reads-alike : {a b old new other : List ℕ} {x y : Report} → Agree a b → ReadsOn told a old new x → ReadsOn told b old other y → (x ≡ y) × (new ≡ other)
+  reads-alike A P Q = let e = alike A (reads-read P) (reads-read Q) in (ap reportFrom e, ap (drop 2) e)
+
+  -- code and count have w bits where each state's have
+  reads-fits : (w : ℕ) {ws old new : List ℕ} {r : Report} → 5 < 2 ^ w → (Sound ws → Slim w (D .outcome (shapeOf ws) (stateOf ws))) → ReadsOn told ws old new r → Fit w (reportFields r)
+  reads-fits w {ws} {old} h k R = fits w 2 (reads-read R) (omega arith, (omega arith, tt)) (λ S. into-counted w old (D .outcome (shapeOf ws) (stateOf ws)) h (k S))
 
 -- ---- List
 
--- a queue, one word each
-abbrev queued : List ℕ → List ℕ → List ℕ
-queued old q = into old (length q) (length q) q
+-- a queue, and of no such queue nothing
+abbrev listing : ℕ → ℕ → Shape → State model → Outcome
+listing kind number n s = cond (isQueue n kind number) (tell (length (s .queues (queueBy kind number))) (s .queues (queueBy kind number))) (refuse 7)
 
--- of no such queue nothing
-abbrev listing : ℕ → ℕ → List ℕ → Shape → State model → List ℕ
-listing kind number old n s = cond (isQueue n kind number) (queued old (s .queues (queueBy kind number))) (7 ∷ 0 ∷ old)
+pub lists-said : (kind number : ℕ) (n : Shape) (s : State model) {old new : List ℕ} {r : Report} → Lists kind number n s old new r → r .code ∷ r .count ∷ new ≡ into old (listing kind number n s)
+lists-said kind number n s {old} {new} {r} L = go (isQueue n kind number) refl
+  where
+    q : List ℕ
+    q = s .queues (queueBy kind number)
 
-module _ {kind number : ℕ} {ws old new : List ℕ} {l : Listed} (L : ListsOn kind number ws old new l) where
-  -- what List tells, as one list of numbers: a refusal, on a state, on an area
-  not-listed : {k : ℕ} → Unlisted old new l k → l .code ∷ l .count ∷ new ≡ k ∷ 0 ∷ old
-  not-listed u = λ i. u .code i ∷ u .count i ∷ u .buffer i
+    go : (b : Bool) → isQueue n kind number ≡ b → r .code ∷ r .count ∷ new ≡ into old (cond b (tell (length q) q) (refuse 7))
+    go true e = reports-said (length q) q (L .found e)
+    go false e = refused-said (L .missing e)
 
-  lists-said : (n : Shape) (s : State model) → Lists kind number n s old new l → l .code ∷ l .count ∷ new ≡ listing kind number old n s
-  lists-said n s D = go (isQueue n kind number) refl (ltb (length old) (length q)) refl
-    where
-      q : List ℕ
-      q = s .queues (queueBy kind number)
+abbrev pub lists-determined : (kind number : ℕ) → Determined (Lists kind number)
+lists-determined kind number = record { outcome = listing kind number; said = lists-said kind number }
 
-      go : (b : Bool) → isQueue n kind number ≡ b → (c : Bool) → ltb (length old) (length q) ≡ c
-          → l .code ∷ l .count ∷ new ≡ cond b (cond c (5 ∷ 0 ∷ old) (0 ∷ length q ∷ (q ++ drop (length q) old))) (7 ∷ 0 ∷ old)
-      go false e c d = not-listed (D .missing e)
-      go true e true d = not-listed (D .short e (ltb-true (length old) (length q) d))
-      go true e false d = let u = D .whole e (ltb-false (length old) (length q) d) in λ i. u .code i ∷ u .count i ∷ u .buffer i
-
-  lists-read : Reads (1 ∷ 0 ∷ old) (listing kind number old) ws (l .code ∷ l .count ∷ new)
-  lists-read = record { unsound = λ h. not-listed (L .unsound h); sound = λ S. lists-said (shapeOf ws) (stateOf ws) (L .sound S) }
-
-  -- a refusal spares the buffer
-  pub lists-spares : l .code ≢ 0 → Unlisted old new l (l .code)
-  lists-spares h = let e = spares lists-read go h in record { code = refl; count = ap (λ (x : List ℕ). getD x 0 0) e; buffer = ap (drop 1) e }
-    where
-      go : (n : Shape) (s : State model) → Spared (0 ∷ old) (listing kind number old n s)
-      go n s =
-          let q = s .queues (queueBy kind number) in
-          either (Spared (0 ∷ old)) (isQueue n kind number) (queued old q) (7 ∷ 0 ∷ old) (into-spares old (length q) (length q) q) (λ z. refl)
-
-  -- code and count have ten bits: a queue has no more members than there are processes
-  pub lists-fits : Fit 10 (listFields l)
-  lists-fits = fits 10 2 lists-read (omega arith, (omega arith, tt)) go
-    where
-      go : Sound ws → Counted 10 (listing kind number old (shapeOf ws) (stateOf ws))
-      go S =
-          let q = stateOf ws .queues (queueBy kind number) in
-          let c = counts-in (shapeOf ws) (S .valid .placed .counts) in
-          let m = queue-length (shapeOf ws .processes) (stateOf ws .queues) (S .valid .placed .place) (S .valid .placed .once) (queueBy kind number) in
-          either (Counted 10) (isQueue (shapeOf ws) kind number) (queued old q) (7 ∷ 0 ∷ old)
-          (into-counted 10 old (length q) (length q) q (omega arith) (omega arith)) (omega arith, (omega arith, tt))
-
--- areas that agree below their size are listed alike
-pub lists-alike : {kind number : ℕ} {a b old new other : List ℕ} {x y : Listed} → Agree a b → ListsOn kind number a old new x → ListsOn kind number b old other y → (x ≡ y) × (new ≡ other)
-lists-alike A P Q = let e = alike A (lists-read P) (lists-read Q) in (ap listedFrom e, ap (drop 2) e)
+-- ten bits: a queue has no more members than there are processes
+pub lists-fits : {kind number : ℕ} {ws old new : List ℕ} {r : Report} → ListsOn kind number ws old new r → Fit 10 (reportFields r)
+lists-fits {kind} {number} {ws} = reads-fits (lists-determined kind number) 10 (omega arith) slim
+  where
+    slim : Sound ws → Slim 10 (listing kind number (shapeOf ws) (stateOf ws))
+    slim S =
+        let q = stateOf ws .queues (queueBy kind number) in
+        let c = counts-in (shapeOf ws) (S .valid .placed .counts) in
+        let m = queue-length (shapeOf ws .processes) (stateOf ws .queues) (S .valid .placed .place) (S .valid .placed .once) (queueBy kind number) in
+        either (Slim 10) (isQueue (shapeOf ws) kind number) (tell (length q) q) (refuse 7) (omega arith) (omega arith)
 
 -- ---- who is due
 
--- who is told, two words each
-abbrev entered : List ℕ → List Entry → List ℕ
-entered old es = into old (2 * length es) (length es) (inWords es)
+abbrev pub tells-determined : (k : ℕ) → Determined (Tells k)
+tells-determined k = reports-determined (λ n s. length (dueWithin n s k)) (λ n s. inWords (dueWithin n s k))
 
-module _ {k : ℕ} {ws old new : List ℕ} {a : Told} (T : TellsOn k ws old new a) where
-  -- what is told, as one list of numbers: a refusal, on a state, on an area
-  not-told : {c : ℕ} → Untold old new a c → a .code ∷ a .count ∷ new ≡ c ∷ 0 ∷ old
-  not-told u = λ i. u .code i ∷ u .count i ∷ u .buffer i
-
-  tells-said : (n : Shape) (s : State model) → Tells k n s old new a → a .code ∷ a .count ∷ new ≡ entered old (dueWithin n s k)
-  tells-said n s D = go (ltb (length old) (2 * length es)) refl
-    where
-      es : List Entry
-      es = dueWithin n s k
-
-      go : (b : Bool) → ltb (length old) (2 * length es) ≡ b → a .code ∷ a .count ∷ new ≡ cond b (5 ∷ 0 ∷ old) (0 ∷ length es ∷ (inWords es ++ drop (2 * length es) old))
-      go true e = not-told (D .short (ltb-true (length old) (2 * length es) e))
-      go false e = let u = D .whole (ltb-false (length old) (2 * length es) e) in λ i. u .code i ∷ u .count i ∷ u .buffer i
-
-  tells-read : Reads (1 ∷ 0 ∷ old) (λ n s. entered old (dueWithin n s k)) ws (a .code ∷ a .count ∷ new)
-  tells-read = record { unsound = λ h. not-told (T .unsound h); sound = λ S. tells-said (shapeOf ws) (stateOf ws) (T .sound S) }
-
-  -- a refusal spares the buffer
-  pub tells-spares : a .code ≢ 0 → Untold old new a (a .code)
-  tells-spares h = let e = spares tells-read go h in record { code = refl; count = ap (λ (x : List ℕ). getD x 0 0) e; buffer = ap (drop 1) e }
-    where
-      go : (n : Shape) (s : State model) → Spared (0 ∷ old) (entered old (dueWithin n s k))
-      go n s = let es = dueWithin n s k in into-spares old (2 * length es) (length es) (inWords es)
-
-  -- code and count have twenty bits: nobody is told twice
-  pub tells-fits : Fit 20 (dueFields a)
-  tells-fits = fits 20 2 tells-read (omega arith, (omega arith, tt)) go
-    where
-      go : Sound ws → Counted 20 (entered old (dueWithin (shapeOf ws) (stateOf ws) k))
-      go S =
-          let es = dueWithin (shapeOf ws) (stateOf ws) k in
-          let c = counts-in (shapeOf ws) (S .valid .placed .counts) in
-          let m = due-length (shapeOf ws) (stateOf ws) k in
-          into-counted 20 old (2 * length es) (length es) (inWords es) (omega arith) (omega arith)
-
--- areas that agree below their size are told alike
-pub tells-alike : {k : ℕ} {a b old new other : List ℕ} {x y : Told} → Agree a b → TellsOn k a old new x → TellsOn k b old other y → (x ≡ y) × (new ≡ other)
-tells-alike A P Q = let e = alike A (tells-read P) (tells-read Q) in (ap toldFrom e, ap (drop 2) e)
+-- twenty bits: nobody is told twice
+pub tells-fits : (k : ℕ) {ws old new : List ℕ} {r : Report} → TellsOn k ws old new r → Fit 20 (reportFields r)
+tells-fits k {ws} = reads-fits (tells-determined k) 20 (omega arith) (λ S. omega (arith, counts-in (shapeOf ws) (S .valid .placed .counts) .processes, due-length (shapeOf ws) (stateOf ws) k))
 
 -- ---- who is the nearest
 

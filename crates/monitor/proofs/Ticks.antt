@@ -1,6 +1,6 @@
 -- What Ticks bring about, on areas: a sound area is the words of its state, and each Tick leaves the words of the state one Tick on, so what
 -- Ticks do to states they do to areas. What is shown can be decided, so an area that cannot be unsound will do for a sound one. Assumes nothing.
-use Prim.Native.Nat.{ℕ, zero, suc, _+_, _*_, _≤_, _<_}
+use Prim.Native.Nat.{ℕ, zero, suc, _+_, _*_, _<_}
 use native.Mathlib.Decide.{decLt}
 use native.Mathlib.Omega.{arith}
 use mathlib.Core.Path.{_≡_, refl, sym, ap, _∙_, subst}
@@ -9,17 +9,18 @@ use mathlib.Core.Bool.{Bool, true, false, false≢true}
 use mathlib.Core.List.{List, [], _∷_, _++_}
 use lib.ListN.{length, getD, drop}
 use Rattle.model.specs.declared.Answer.{Answer}
+use Rattle.model.specs.declared.Report.{Report}
 use Rattle.model.specs.Queue.{member, All}
 use Rattle.model.specs.Queue.Queue.{ready, condition}
 use Rattle.model.specs.Machine.{State, model, after}
 use Rattle.model.specs.Timers.{ticks, left, Entry, dueWithin}
+use Rattle.model.specs.Reports.{Reports}
 use Rattle.model.proofs.Ticking.{seat, left-waits, ticks-stay, ticks-wake, ticks-still, Exact, due-exact, nearest-is}
 use Rattle.area.specs.Reading.{shapeOf, stateOf}
 use Rattle.area.specs.Sound.{Sound}
 use Rattle.area.proofs.States.{sound-image}
-use Rattle.timers.specs.declared.Told.{Told}
 use Rattle.timers.specs.declared.Earliest.{Earliest}
-use Rattle.timers.specs.Telling.{inWords, Untold, ToldAll}
+use Rattle.timers.specs.Telling.{inWords}
 use Rattle.monitor.specs.Calls.{Performs, TellsOn, NearestOn}
 use Rattle.monitor.specs.History.{Run}
 use Rattle.monitor.specs.Ticks.{WakesIn, Still}
@@ -84,19 +85,18 @@ pair-of T (e ∷ es) rest (suc i) a h =
     rw (y, x) (pair-of T es rest i (a .1) (omega arith))
 
 -- whoever is told with d ticks left wakes in the d-th Tick
-pub told-wakes : {k : ℕ} {ws old new : List ℕ} {r : Told} {i : ℕ} → TellsOn k ws old new r → i < r .count → WakesIn Performs ws (getD new (2 * i) 0) (getD new (2 * i + 1) 0)
-told-wakes {k} {ws} {old} {new} {r} {i} T h = left-wakes (λ u. let c = T .unsound u .count in omega arith) exact
+pub told-wakes : (k : ℕ) {ws old new : List ℕ} {r : Report} {i : ℕ} → TellsOn k ws old new r → i < r .count → WakesIn Performs ws (getD new (2 * i) 0) (getD new (2 * i + 1) 0)
+told-wakes k {ws} {old} {new} {r} {i} T h = left-wakes (λ u. let c = T .unsound u .count in omega arith) exact
   where
     exact : Sound ws → Exact (shapeOf ws) (stateOf ws) (getD new (2 * i) 0, getD new (2 * i + 1) 0)
-    exact S = go (dueWithin (shapeOf ws) (stateOf ws) k) (due-exact (shapeOf ws) (stateOf ws) k) (T .sound S .short) (T .sound S .whole)
+    exact S = go (dueWithin (shapeOf ws) (stateOf ws) k) (due-exact (shapeOf ws) (stateOf ws) k) (T .sound S)
       where
-        go : (es : List Entry) → All (Exact (shapeOf ws) (stateOf ws)) es → (length old < 2 * length es → Untold old new r 5) → (2 * length es ≤ length old → ToldAll old new r es)
-            → Exact (shapeOf ws) (stateOf ws) (getD new (2 * i) 0, getD new (2 * i + 1) 0)
-        go es a short whole = elim (decLt (length old) (2 * length es)) [
-          | yes l ↦ let c = short l .count in let w : ⊥ = omega arith in absurd w
-          | no l ↦ let t = whole (omega arith) in
+        go : (es : List Entry) → All (Exact (shapeOf ws) (stateOf ws)) es → Reports (length es) (inWords es) old new r → Exact (shapeOf ws) (stateOf ws) (getD new (2 * i) 0, getD new (2 * i + 1) 0)
+        go es a R = elim (decLt (length old) (length (inWords es))) [
+          | yes l ↦ let c = R .short l .count in let w : ⊥ = omega arith in absurd w
+          | no l ↦ let t = R .whole (omega arith) in
               subst (λ (b : List ℕ). Exact (shapeOf ws) (stateOf ws) (getD b (2 * i) 0, getD b (2 * i + 1) 0)) (sym (t .buffer))
-              (pair-of (Exact (shapeOf ws) (stateOf ws)) es (drop (2 * length es) old) i a (subst (λ (m : ℕ). i < m) (t .count) h))
+              (pair-of (Exact (shapeOf ws) (stateOf ws)) es (drop (length (inWords es)) old) i a (subst (λ (m : ℕ). i < m) (t .count) h))
         ]
 
 -- ---- who is the nearest

@@ -3,17 +3,18 @@ use Prim.Native.Nat.{ℕ}
 use mathlib.Core.Path.{_≡_}
 use mathlib.Core.Logic.{_≢_}
 use mathlib.Core.List.{List}
+use Rattle.model.specs.declared.Shape.{Shape}
 use Rattle.model.specs.declared.Call.{Call}
 use Rattle.model.specs.declared.Answer.{Answer}
-use Rattle.model.specs.Machine.{model, step, refusal}
+use Rattle.model.specs.declared.Report.{Report}
+use Rattle.model.specs.Machine.{State, model, step, refusal}
+use Rattle.model.specs.Reports.{Refused}
 use Rattle.area.specs.State.{write}
 use Rattle.area.specs.Reading.{shapeOf, stateOf}
 use Rattle.area.specs.Sound.{Sound}
-use Rattle.queues.specs.declared.listing.Listed.{Listed}
-use Rattle.queues.specs.Listing.{Unlisted, Lists}
-use Rattle.timers.specs.declared.Told.{Told}
+use Rattle.queues.specs.Listing.{Lists}
 use Rattle.timers.specs.declared.Earliest.{Earliest}
-use Rattle.timers.specs.Telling.{Untold, Tells, nearestIn}
+use Rattle.timers.specs.Telling.{Tells, nearestIn}
 
 -- an unsound area is refused by 1 and left as it is; a sound one gives the rule's answer and the words of the rule's state, with the words
 -- beyond as they were
@@ -21,17 +22,20 @@ pub record Performs (c : Call) (old new : List ℕ) (a : Answer) : Type 0 where
   pub unsound : (Sound old → ⊥) → (a ≡ refusal 1) × (new ≡ old)
   pub sound : Sound old → (a ≡ (step model (shapeOf old) (stateOf old) c) .1) × (new ≡ write (shapeOf old) ((step model (shapeOf old) (stateOf old) c) .0) old)
 
--- List: an unsound area is refused by 1; a sound one is listed as its state says; a refusal changes no word of the buffer
-pub record ListsOn (kind number : ℕ) (ws old new : List ℕ) (r : Listed) : Type 0 where
-  pub unsound : (Sound ws → ⊥) → Unlisted old new r 1
-  pub sound : Sound ws → Lists kind number (shapeOf ws) (stateOf ws) old new r
+-- a read into a buffer: an unsound area is refused by 1; of a sound one its state is told, as promised; a refusal changes no word of the buffer
+pub record ReadsOn (told : Shape → State model → List ℕ → List ℕ → Report → Type 0) (ws old new : List ℕ) (r : Report) : Type 0 where
+  pub unsound : (Sound ws → ⊥) → Refused old new r 1
+  pub sound : Sound ws → told (shapeOf ws) (stateOf ws) old new r
 
--- who is due within k ticks: an unsound area is refused by 1; of a sound one its state is told; a refusal changes no word of the buffer
-pub record TellsOn (k : ℕ) (ws old new : List ℕ) (r : Told) : Type 0 where
-  pub unsound : (Sound ws → ⊥) → Untold old new r 1
-  pub sound : Sound ws → Tells k (shapeOf ws) (stateOf ws) old new r
+-- List
+abbrev pub ListsOn : ℕ → ℕ → List ℕ → List ℕ → List ℕ → Report → Type 0
+ListsOn kind number = ReadsOn (Lists kind number)
 
--- who is the nearest, likewise
+-- who is due within k ticks
+abbrev pub TellsOn : ℕ → List ℕ → List ℕ → List ℕ → Report → Type 0
+TellsOn k = ReadsOn (Tells k)
+
+-- who is the nearest: an unsound area is refused by 1; of a sound one its state is told
 pub record NearestOn (ws : List ℕ) (r : Earliest) : Type 0 where
   pub unsound : (Sound ws → ⊥) → r ≡ record { code = 1; process = 0; left = 0 }
   pub sound : Sound ws → r ≡ nearestIn (shapeOf ws) (stateOf ws)

@@ -3,10 +3,9 @@ use model::Answer;
 use model::Call;
 use model::Priority;
 use model::Process;
+use model::Report;
 use model::Ticks;
-use queues::listing::Listed;
 use timers::Earliest;
-use timers::Told;
 ghost use mathlib.Core.Path.{_≡_};
 ghost use Rattle.model.specs.declared.Call.the-variants.{Enter, Exit, Wait, Notify, Broadcast, Naked, Requeue, SetPriority, Tick};
 ghost use Rattle.model.specs.Machine.{refusal};
@@ -138,23 +137,30 @@ pub fn perform(area: &mut [u16], call: Call) -> Answer
 
 // ---- reads
 
+// What an unsound area is answered to a read into a buffer.
+fn unread() -> Report
+    ensures { λ r. ⌜ r ≡ record { code = 1; count = 0 } ⌝ }
+{
+    Report { code: 1, count: 0 }
+}
+
 // List: one queue, first to last, into the buffer.
-pub fn list(area: &[u16], kind: u16, number: u16, buffer: &mut [u16]) -> Listed
+pub fn list(area: &[u16], kind: u16, number: u16, buffer: &mut [u16]) -> Report
     ensures { λ r. ⌜ ListsOn kind number (now (area .entry)) (now (buffer .entry)) (now (buffer .exit)) r ⌝ }
 {
     if !sound::sound(area) {
-        return Listed { code: 1, count: 0 };
+        return unread();
     }
     let shape = area::shape_of(area);
     queues::listing::list(area, shape, kind, number, buffer)
 }
 
 // Who is due within so many ticks, by ticks left and then by number, two words each into the buffer.
-pub fn due(area: &[u16], ticks: Ticks, buffer: &mut [u16]) -> Told
+pub fn due(area: &[u16], ticks: Ticks, buffer: &mut [u16]) -> Report
     ensures { λ r. ⌜ TellsOn (ticks .0) (now (area .entry)) (now (buffer .entry)) (now (buffer .exit)) r ⌝ }
 {
     if !sound::sound(area) {
-        return Told { code: 1, count: 0 };
+        return unread();
     }
     let shape = area::shape_of(area);
     timers::due(area, shape, ticks, buffer)

@@ -12,6 +12,7 @@ use Rattle.model.specs.Queue.Queue.{ready, park, lock, condition}
 use Rattle.model.specs.Rules.{readyOrPark}
 use Rattle.model.specs.Machine.{State, model}
 use Rattle.model.proofs.Tests.{eqb-yes, eqb-no, inside-bounds, denied}
+use Rattle.model.proofs.Reports.{reports-short, reports-whole}
 use Rattle.area.specs.Layout.{at}
 use Rattle.area.specs.Layout.Slot.{Tail}
 use Rattle.queues.specs.Listing.{queueBy, isQueue, Lists}
@@ -89,22 +90,10 @@ some-by n kind i {r} e h = go (isQueue n kind i) refl
 
 module _ {kind i : ℕ} {n : Shape} {s : State model} {old : List ℕ} where
   pub list-missing : isQueue n kind i ≡ false → Lists kind i n s old old record { code = 7; count = 0 }
-  list-missing f = record {
-    missing = λ g. record { code = refl; count = refl; buffer = refl };
-    short = λ t h. absurd (true≢false (sym t ∙ f));
-    whole = λ t h. absurd (true≢false (sym t ∙ f));
-  }
+  list-missing f = record { missing = λ g. record { code = refl; count = refl; buffer = refl }; found = λ t. absurd (true≢false (sym t ∙ f)) }
 
   pub list-short : {k : ℕ} → isQueue n kind i ≡ true → k ≡ length (s .queues (queueBy kind i)) → length old < k → Lists kind i n s old old record { code = 5; count = 0 }
-  list-short t e l = record {
-    missing = λ f. absurd (true≢false (sym t ∙ f));
-    short = λ g h. record { code = refl; count = refl; buffer = refl };
-    whole = λ g h. let w : ⊥ = omega arith in absurd w;
-  }
+  list-short t e l = record { missing = λ f. absurd (true≢false (sym t ∙ f)); found = λ g. reports-short (omega arith) }
 
   pub list-whole : {k : ℕ} {new : List ℕ} → isQueue n kind i ≡ true → k ≡ length (s .queues (queueBy kind i)) → length (s .queues (queueBy kind i)) ≤ length old → new ≡ s .queues (queueBy kind i) ++ drop (length (s .queues (queueBy kind i))) old → Lists kind i n s old new record { code = 0; count = k }
-  list-whole t e l d = record {
-    missing = λ f. absurd (true≢false (sym t ∙ f));
-    short = λ g h. let w : ⊥ = omega arith in absurd w;
-    whole = λ g h. record { code = refl; count = e; buffer = d };
-  }
+  list-whole t e l d = record { missing = λ f. absurd (true≢false (sym t ∙ f)); found = λ g. reports-whole e l d }

@@ -1,4 +1,5 @@
 // One queue written out: List. Assumes nothing.
+use model::Report;
 use model::Shape;
 ghost use mathlib.Core.Path.{_≡_};
 ghost use mathlib.Core.Bool.{cond};
@@ -7,12 +8,6 @@ ghost use Rattle.area.specs.Holds.{Holds, Held};
 ghost use Rattle.area.specs.Layout.{at};
 ghost use Rattle.area.specs.Layout.Slot.{Tail};
 ghost use Rattle.queues.specs.Listing.{Lists, queueBy, isQueue};
-
-// What List answers: its code, and how many processes it wrote.
-pub struct Listed {
-    pub code: u16,
-    pub count: u16,
-}
 
 // Where the tail of the queue of a kind and a number stands, 0 if there is no such queue.
 fn queue_at(shape: Shape, kind: u16, number: u16) -> usize
@@ -48,22 +43,22 @@ fn queue_at(shape: Shape, kind: u16, number: u16) -> usize
     0
 }
 
-pub fn list(area: &[u16], shape: Shape, kind: u16, number: u16, buffer: &mut [u16]) -> Listed
+pub fn list(area: &[u16], shape: Shape, kind: u16, number: u16, buffer: &mut [u16]) -> Report
     requires { ⌜ Held shape (now area) ⌝ }
     ensures { λ r. ⌜ ((s : State model) → Holds shape (now (area .entry)) s → Lists kind number shape s (now (buffer .entry)) (now (buffer .exit)) r) ⌝ }
 {
     let i = queue_at(shape, kind, number);
     if i == 0 {
-        return Listed { code: 7, count: 0 };
+        return Report { code: 7, count: 0 };
     }
     // a buffer with room for every process has room for any queue
     if buffer.len() < shape.processes as usize {
         if buffer.len() < moves::count_in(area, shape, i) as usize {
-            return Listed { code: 5, count: 0 };
+            return Report { code: 5, count: 0 };
         }
     }
     let count = moves::copy_out(area, shape, i, buffer);
-    Listed {
+    Report {
         code: 0,
         count: count,
     }

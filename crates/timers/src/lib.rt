@@ -1,5 +1,6 @@
 // Reads of the timers, on an area that holds a valid state: who is due within so many ticks, and who is the nearest. Assumes nothing.
 use area::places;
+use model::Report;
 use model::Shape;
 use model::Ticks;
 ghost use mathlib.Core.Path.{_≡_};
@@ -15,12 +16,6 @@ ghost use Rattle.model.specs.Timers.{left};
 ghost use Rattle.area.specs.Holds.{Holds};
 ghost use Rattle.area.specs.Calls.{Stands};
 ghost use Rattle.timers.specs.Telling.{dueOnes, fewer, Tells, nearestIn};
-
-// What is answered to who is due: the code, and how many processes are told.
-pub struct Told {
-    pub code: u16,
-    pub count: u16,
-}
 
 // What is answered to who is the nearest: the code, the process, its ticks left. No process where no timer is set.
 pub struct Earliest {
@@ -98,7 +93,7 @@ fn write_due(area: &[u16], shape: Shape, clock: u16, ticks: u16, buffer: &mut [u
 }
 
 // Who is due within so many ticks, by ticks left and then by number, two words each into the buffer: process and ticks left.
-pub fn due(area: &[u16], shape: Shape, ticks: Ticks, buffer: &mut [u16]) -> Told
+pub fn due(area: &[u16], shape: Shape, ticks: Ticks, buffer: &mut [u16]) -> Report
     requires { ⌜ Stands shape (now area) ⌝ }
     ensures { λ r. ⌜ ((s : State model) → Holds shape (now (area .entry)) s → Valid shape s → Tells (ticks .0) shape s (now (buffer .entry)) (now (buffer .exit)) r) ⌝ }
 {
@@ -106,14 +101,14 @@ pub fn due(area: &[u16], shape: Shape, ticks: Ticks, buffer: &mut [u16]) -> Told
     let clock = area::get(area, places::clock());
     let count = count_due(area, shape, clock, within);
     if count == 0 {
-        return Told { code: 0, count: 0 };
+        return Report { code: 0, count: 0 };
     }
     if buffer.len() < 2 * count as usize {
-        return Told { code: 5, count: 0 };
+        return Report { code: 5, count: 0 };
     }
     write_due(area, shape, clock, within, buffer);
     order::arrange(area, shape, clock, buffer, count as usize);
-    Told {
+    Report {
         code: 0,
         count: count,
     }

@@ -7,12 +7,11 @@ use mathlib.Core.List.{List, [], _∷_}
 use lib.ListN.{length, getD}
 use lib.Pow.{pow-pos}
 use Rattle.model.specs.declared.Answer.{Answer}
+use Rattle.model.specs.declared.Report.{Report}
 use Rattle.model.specs.Queue.{All}
 use Rattle.model.specs.Machine.{fieldsOf}
-use Rattle.queues.specs.declared.listing.Listed.{Listed}
-use Rattle.timers.specs.declared.Told.{Told}
 use Rattle.timers.specs.declared.Earliest.{Earliest}
-use Rattle.wire.specs.Wire.{packed, unpacked, Carries, listFields, dueFields, nearestFields, answerOf, listedOf, dueOf, nearestOf}
+use Rattle.wire.specs.Wire.{packed, unpacked, Carries, reportFields, nearestFields, answerOf, reportOf, nearestOf}
 
 -- each field has w bits
 abbrev pub Fit : ℕ → List ℕ → Type 0
@@ -42,11 +41,8 @@ carries w xs e h = record { number = e; back = ap (unpacked w (length xs)) e ∙
 abbrev pub answerFrom : List ℕ → Answer
 answerFrom l = record { code = getD l 0 0; running = getD l 1 0; retry = getD l 2 0; mark = getD l 3 0; moved = getD l 4 0; ahead = getD l 5 0 }
 
-abbrev pub listedFrom : List ℕ → Listed
-listedFrom l = record { code = getD l 0 0; count = getD l 1 0 }
-
-abbrev pub toldFrom : List ℕ → Told
-toldFrom l = record { code = getD l 0 0; count = getD l 1 0 }
+abbrev pub reportFrom : List ℕ → Report
+reportFrom l = record { code = getD l 0 0; count = getD l 1 0 }
 
 abbrev pub earliestFrom : List ℕ → Earliest
 earliestFrom l = record { code = getD l 0 0; process = getD l 1 0; left = getD l 2 0 }
@@ -56,13 +52,9 @@ pub read-answer : {r : ℕ} {a : Answer} → Carries 10 r (fieldsOf a) → a ≡
 unfolding unpacked
 read-answer {r} C = ap answerFrom (sym (C .back)) ∙ simp div-div-eq-div-mul
 
-pub read-listed : {r : ℕ} {l : Listed} → Carries 10 r (listFields l) → l ≡ listedOf r
+pub read-report : (w : ℕ) {r : ℕ} {a : Report} → Carries w r (reportFields a) → a ≡ reportOf w r
 unfolding unpacked
-read-listed C = ap listedFrom (sym (C .back))
-
-pub read-due : {r : ℕ} {a : Told} → Carries 20 r (dueFields a) → a ≡ dueOf r
-unfolding unpacked
-read-due C = ap toldFrom (sym (C .back))
+read-report w C = ap reportFrom (sym (C .back))
 
 pub read-nearest : {r : ℕ} {a : Earliest} → Carries 20 r (nearestFields a) → a ≡ nearestOf r
 unfolding unpacked

@@ -4,9 +4,8 @@ use mathlib.Core.Path.{_≡_}
 use mathlib.Core.List.{List, [], _∷_}
 use lib.ListN.{length}
 use Rattle.model.specs.declared.Answer.{Answer}
+use Rattle.model.specs.declared.Report.{Report}
 use Rattle.model.specs.Machine.{fieldsOf}
-use Rattle.queues.specs.declared.listing.Listed.{Listed}
-use Rattle.timers.specs.declared.Told.{Told}
 use Rattle.timers.specs.declared.Earliest.{Earliest}
 
 -- the number that has w bits of each field, the first lowest
@@ -30,14 +29,11 @@ pub record Carries (w r : ℕ) (xs : List ℕ) : Type 0 where
 abbrev pub numberOf : Answer → ℕ
 numberOf a = packed 10 (fieldsOf a)
 
--- List's two
-abbrev pub listFields : Listed → List ℕ
-listFields l = l .code ∷ l .count ∷ []
+-- a report's two
+abbrev pub reportFields : Report → List ℕ
+reportFields r = r .code ∷ r .count ∷ []
 
--- those of who is due, and of who is the nearest
-abbrev pub dueFields : Told → List ℕ
-dueFields a = a .code ∷ a .count ∷ []
-
+-- those of who is the nearest
 abbrev pub nearestFields : Earliest → List ℕ
 nearestFields a = a .code ∷ a .process ∷ a .left ∷ []
 
@@ -47,14 +43,10 @@ nearestFields a = a .code ∷ a .process ∷ a .left ∷ []
 abbrev pub answerOf : ℕ → Answer
 answerOf r = record { code = r % 2 ^ 10; running = r / 2 ^ 10 % 2 ^ 10; retry = r / 2 ^ 20 % 2 ^ 10; mark = r / 2 ^ 30 % 2 ^ 10; moved = r / 2 ^ 40 % 2 ^ 10; ahead = r / 2 ^ 50 % 2 ^ 10 }
 
--- List's: code in bits 0 to 9, count in 10 to 19
-abbrev pub listedOf : ℕ → Listed
-listedOf r = record { code = r % 2 ^ 10; count = r / 2 ^ 10 % 2 ^ 10 }
+-- a report, w bits a field: code in the lowest w bits, count in the next
+abbrev pub reportOf : ℕ → ℕ → Report
+reportOf w r = record { code = r % 2 ^ w; count = r / 2 ^ w % 2 ^ w }
 
--- who is due, twenty bits a field: code in bits 0 to 19, count in 20 to 39
-abbrev pub dueOf : ℕ → Told
-dueOf r = record { code = r % 2 ^ 20; count = r / 2 ^ 20 % 2 ^ 20 }
-
--- who is the nearest: code in bits 0 to 19, process in 20 to 39, ticks left in 40 to 59
+-- who is the nearest, twenty bits a field: code in bits 0 to 19, process in 20 to 39, ticks left in 40 to 59
 abbrev pub nearestOf : ℕ → Earliest
 nearestOf r = record { code = r % 2 ^ 20; process = r / 2 ^ 20 % 2 ^ 20; left = r / 2 ^ 40 % 2 ^ 20 }

@@ -1,11 +1,10 @@
 // Answers as numbers, in which they cross to C and stand in a log: a field in so many bits, the code lowest. Assumes nothing.
 use model::Answer;
-use queues::listing::Listed;
+use model::Report;
 use timers::Earliest;
-use timers::Told;
 ghost use mathlib.Core.Path.{_≡_};
 ghost use Prim.Native.Nat.{_+_, _*_, _%_, _^_, _≤_, _<_};
-ghost use Rattle.wire.specs.Wire.{packed, listFields, dueFields, nearestFields, numberOf};
+ghost use Rattle.wire.specs.Wire.{packed, reportFields, nearestFields, numberOf};
 
 // As many numbers as ten bits hold, and as twenty.
 const TEN: u64 = 1024;
@@ -44,17 +43,17 @@ pub fn pack(a: Answer) -> u64
 }
 
 // Code and count, ten bits each, code lowest.
-pub fn pack_list(l: Listed) -> u64
-    ensures { λ r. ⌜ r ≡ packed 10 (listFields l) ⌝ }
+pub fn pack_list(r: Report) -> u64
+    ensures { λ n. ⌜ n ≡ packed 10 (reportFields r) ⌝ }
 {
-    above(TEN, l.code as u32, above(TEN, l.count as u32, 0))
+    above(TEN, r.code as u32, above(TEN, r.count as u32, 0))
 }
 
-// The answers of the timers' reads, twenty bits a field, code lowest.
-pub fn pack_due(a: Told) -> u64
-    ensures { λ r. ⌜ r ≡ packed 20 (dueFields a) ⌝ }
+// The answers of the reads of document 02, twenty bits a field, code lowest.
+pub fn pack_report(r: Report) -> u64
+    ensures { λ n. ⌜ n ≡ packed 20 (reportFields r) ⌝ }
 {
-    above(TWENTY, a.code as u32, above(TWENTY, a.count as u32, 0))
+    above(TWENTY, r.code as u32, above(TWENTY, r.count as u32, 0))
 }
 
 pub fn pack_nearest(a: Earliest) -> u64

@@ -5,7 +5,7 @@ use Rattle.kernel.proofs.kernel_due.Statement.{statement}
 use Rattle.kernel.proofs.kernel_due.Tie as tie
 
 returns : tie.Need-returns
-returns c = dues (c .before .before .before .due .ensures) (c .pack-due .ensures)
+returns c = dues _ (c .before .before .before .due .ensures) (c .pack-report .ensures)
 
 pub kernel-due-spec : {M : Type 1} → statement M
 kernel-due-spec = tie.close (tie.spec (λ c κs. search needs) (λ c κs. search needs) (λ c. search needs) returns)

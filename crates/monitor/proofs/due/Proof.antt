@@ -1,12 +1,11 @@
 -- `monitor::due` meets its contract: an unsound area is refused, and a sound one holds the state that it says, of which is told. Assumes nothing.
-use mathlib.Core.Path.{refl}
 use borrow.Author.Needs.{needs}
-use Rattle.monitor.proofs.Performs.{counts-there, stands-at, tells-not, tells-at}
+use Rattle.monitor.proofs.Performs.{counts-there, stands-at, reads-not, reads-at}
 use Rattle.monitor.proofs.due.Statement.{statement}
 use Rattle.monitor.proofs.due.Tie as tie
 
 returns : tie.Need-returns
-returns c = tells-not (c .before .sound .ensures) (c .if1 .taken) refl refl
+returns c = reads-not (c .before .before .sound .ensures) (c .before .if1 .taken) (c .unread .ensures)
 
 shape-of-requires : tie.Need-shape-of-requires
 shape-of-requires c κs = counts-there (c .before .sound .ensures) (c .if1 .left)
@@ -17,7 +16,7 @@ due-requires c κs = stands-at (c .before .before .before .sound .ensures) (c .b
 returns-2 : tie.Need-returns-2
 returns-2 c =
     let b = c .before .before .before .before in
-    tells-at (b .before .before .sound .ensures) (b .before .if1 .left) (b .shape-of .ensures) (c .before .before .due .ensures)
+    reads-at (b .before .before .sound .ensures) (b .before .if1 .left) (b .shape-of .ensures) (c .before .before .due .ensures)
 
 pub due-spec : {M : Type 1} → statement M
-due-spec = tie.close (tie.spec (λ c κs. search needs) returns shape-of-requires due-requires (λ c. search needs) returns-2)
+due-spec = tie.close (tie.spec (λ c κs. search needs) (λ c κs. search needs) returns shape-of-requires due-requires (λ c. search needs) returns-2)
