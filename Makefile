@@ -34,9 +34,10 @@ run: rehearse
 
 # rehearse first: it takes every crate but kernel, replay and table, and both cores
 test: rehearse
-	$(MAKE) target/nine target/probe
+	$(MAKE) target/nine target/probe target/sheet
 	target/nine | diff examples/nine.txt -
 	target/probe | diff examples/probe.txt -
+	target/sheet | diff examples/sheet.txt -
 	$(TESTS)
 	rt ci
 

@@ -34,18 +34,21 @@ struct calls {
     uint64_t (*list)(const uint16_t *, size_t, uint16_t, uint16_t, uint16_t *, size_t);
     uint64_t (*due)(const uint16_t *, size_t, uint16_t, uint16_t *, size_t);
     uint64_t (*nearest)(const uint16_t *, size_t);
+    uint64_t (*sheet)(const uint16_t *, size_t, uint8_t *, size_t);
 };
 
 #define CALLS_OF(kernel) \
     {.start = kernel##_start, .sound = kernel##_sound, .tick = kernel##_tick, .enter = kernel##_enter, \
      .exit = kernel##_exit, .notify = kernel##_notify, .broadcast = kernel##_broadcast, \
      .naked = kernel##_naked, .set_priority = kernel##_set_priority, .wait = kernel##_wait, \
-     .requeue = kernel##_requeue, .list = kernel##_list, .due = kernel##_due, .nearest = kernel##_nearest}
+     .requeue = kernel##_requeue, .list = kernel##_list, .due = kernel##_due, .nearest = kernel##_nearest, \
+     .sheet = kernel##_sheet}
 
 static const struct calls LIBRARY = CALLS_OF(kernel), PLAIN = CALLS_OF(plain);
 
-enum { LOCKS = 2, FEW_CONDITIONS = 4, MANY_CONDITIONS = 255, PARKS = 2, PRIORITY = 3, MAX_PROCESSES = 1023 };
-enum { MAX_WORDS = KERNEL_AREA_WORDS(MAX_PROCESSES, LOCKS, MANY_CONDITIONS, PARKS) };
+enum { PRIORITY = 3, MAX_PROCESSES = 1023, MAX_LOCKS = 255, MAX_CONDITIONS = 255, MAX_PARKS = 8 };
+enum { MAX_WORDS = KERNEL_AREA_WORDS(MAX_PROCESSES, MAX_LOCKS, MAX_CONDITIONS, MAX_PARKS) };
+enum { MAX_PAGE = KERNEL_PAGE_BYTES(MAX_LOCKS, MAX_CONDITIONS, MAX_PARKS) };
 
 /* Scenes. */
 
@@ -165,7 +168,14 @@ static uint16_t any_tick(unsigned process, unsigned processes)
     return (uint16_t)(SOON + 1 + mixed(process) % 60000);
 }
 
-enum place { FIRST_CONDITION, LAST_CONDITION, EACH_CONDITION, FIRST_LOCK, HOLDERS_CONDITION };
+/* How many locks, conditions and parks there are. */
+struct counts {
+    uint16_t locks, conditions, parks;
+};
+
+static const struct counts FEW = {2, 4, 2}, MANY_CONDITIONS = {2, MAX_CONDITIONS, 2}, MOST = {MAX_LOCKS, MAX_CONDITIONS, MAX_PARKS};
+
+enum place { FIRST_CONDITION, LAST_CONDITION, EACH_CONDITION, FIRST_LOCK, HOLDERS_CONDITION, EACH_QUEUE };
 enum order { FORWARDS, BACKWARDS };
 
 struct scene {
@@ -175,42 +185,46 @@ struct scene {
     enum place place;       /* where they wait */
     enum order order;       /* in which they came there, by process number */
     ticks *ticks;
-    uint16_t conditions;
+    const struct counts *counts;
 };
 
 static const struct scene
-    READY = {"ready", equal, nobody, FIRST_CONDITION, FORWARDS, never, FEW_CONDITIONS},
-    READY_ANY = {"ready, random", any, nobody, FIRST_CONDITION, FORWARDS, never, FEW_CONDITIONS},
-    WAITING = {"waiting", equal, everybody, FIRST_CONDITION, FORWARDS, never, FEW_CONDITIONS},
-    WAITING_ANY = {"waiting, random", any, everybody, FIRST_CONDITION, FORWARDS, never, FEW_CONDITIONS},
-    WAITING_SPREAD = {"waiting on 255", any, everybody, EACH_CONDITION, FORWARDS, never, MANY_CONDITIONS},
+    READY = {"ready", equal, nobody, FIRST_CONDITION, FORWARDS, never, &FEW},
+    READY_ANY = {"ready, random", any, nobody, FIRST_CONDITION, FORWARDS, never, &FEW},
+    WAITING = {"waiting", equal, everybody, FIRST_CONDITION, FORWARDS, never, &FEW},
+    WAITING_ANY = {"waiting, random", any, everybody, FIRST_CONDITION, FORWARDS, never, &FEW},
+    WAITING_SPREAD = {"waiting on 255", any, everybody, EACH_CONDITION, FORWARDS, never, &MANY_CONDITIONS},
     /* the last process holds the lock for which the others queue */
-    BLOCKED = {"blocked, random", any, all_but_last, FIRST_LOCK, FORWARDS, never, FEW_CONDITIONS},
+    BLOCKED = {"blocked, random", any, all_but_last, FIRST_LOCK, FORWARDS, never, &FEW},
     /* the last but one runs, and is to queue with them */
-    QUEUE = {"behind all", equal, all_but_last_two, FIRST_LOCK, FORWARDS, never, FEW_CONDITIONS},
-    QUEUE_AMIDST = {"amidst", half_lower, all_but_last_two, FIRST_LOCK, FORWARDS, never, FEW_CONDITIONS},
+    QUEUE = {"behind all", equal, all_but_last_two, FIRST_LOCK, FORWARDS, never, &FEW},
+    QUEUE_AMIDST = {"amidst", half_lower, all_but_last_two, FIRST_LOCK, FORWARDS, never, &FEW},
     /* the last process holds the lock, and is to wait where the others wait: on the first condition */
-    MONITOR = {"behind all", equal, all_but_last, HOLDERS_CONDITION, FORWARDS, never, FEW_CONDITIONS},
-    MONITOR_AMIDST = {"amidst", half_lower, all_but_last, HOLDERS_CONDITION, FORWARDS, never, FEW_CONDITIONS},
+    MONITOR = {"behind all", equal, all_but_last, HOLDERS_CONDITION, FORWARDS, never, &FEW},
+    MONITOR_AMIDST = {"amidst", half_lower, all_but_last, HOLDERS_CONDITION, FORWARDS, never, &FEW},
     /* everybody waits with a timer, by the order of the timers */
-    TIMED_RISING = {"timers rising", equal, everybody, FIRST_CONDITION, FORWARDS, in_turn, FEW_CONDITIONS},
-    TIMED_FALLING = {"timers falling", equal, everybody, FIRST_CONDITION, FORWARDS, last_first, FEW_CONDITIONS},
-    TIMED_ANY = {"timers random", equal, everybody, FIRST_CONDITION, FORWARDS, any_tick, FEW_CONDITIONS},
-    HALF = {"half, random", any, odd_but_first, FIRST_CONDITION, FORWARDS, never, FEW_CONDITIONS},
+    TIMED_RISING = {"timers rising", equal, everybody, FIRST_CONDITION, FORWARDS, in_turn, &FEW},
+    TIMED_FALLING = {"timers falling", equal, everybody, FIRST_CONDITION, FORWARDS, last_first, &FEW},
+    TIMED_ANY = {"timers random", equal, everybody, FIRST_CONDITION, FORWARDS, any_tick, &FEW},
+    HALF = {"half, random", any, odd_but_first, FIRST_CONDITION, FORWARDS, never, &FEW},
     /* those who wake: one runs, and all others wait */
-    EQUAL = {"equal", equal, all_but_last, FIRST_CONDITION, FORWARDS, next_tick, FEW_CONDITIONS},
-    ANY = {"random", any, all_but_last, FIRST_CONDITION, FORWARDS, next_tick, FEW_CONDITIONS},
-    RISING = {"rising", rising, all_but_last, FIRST_CONDITION, FORWARDS, next_tick, FEW_CONDITIONS},
-    REVERSED = {"reversed", equal, all_but_last, FIRST_CONDITION, BACKWARDS, next_tick, FEW_CONDITIONS},
-    LOW_RUNNER = {"above the runner", low_runner, all_but_last, FIRST_CONDITION, BACKWARDS, next_tick, FEW_CONDITIONS},
-    SPREAD = {"on all of 255", any, all_but_last, EACH_CONDITION, BACKWARDS, next_tick, MANY_CONDITIONS},
-    LAST = {"on the last of 255", any, all_but_last, LAST_CONDITION, BACKWARDS, next_tick, MANY_CONDITIONS},
+    EQUAL = {"equal", equal, all_but_last, FIRST_CONDITION, FORWARDS, next_tick, &FEW},
+    ANY = {"random", any, all_but_last, FIRST_CONDITION, FORWARDS, next_tick, &FEW},
+    RISING = {"rising", rising, all_but_last, FIRST_CONDITION, FORWARDS, next_tick, &FEW},
+    REVERSED = {"reversed", equal, all_but_last, FIRST_CONDITION, BACKWARDS, next_tick, &FEW},
+    LOW_RUNNER = {"above the runner", low_runner, all_but_last, FIRST_CONDITION, BACKWARDS, next_tick, &FEW},
+    SPREAD = {"on all of 255", any, all_but_last, EACH_CONDITION, BACKWARDS, next_tick, &MANY_CONDITIONS},
+    LAST = {"on the last of 255", any, all_but_last, LAST_CONDITION, BACKWARDS, next_tick, &MANY_CONDITIONS},
     /* half are ready, and those who wake join in their midst */
-    AMIDST = {"amidst the ready", layered, odd_but_first, FIRST_CONDITION, BACKWARDS, next_tick, FEW_CONDITIONS};
+    AMIDST = {"amidst the ready", layered, odd_but_first, FIRST_CONDITION, BACKWARDS, next_tick, &FEW},
+    /* as many queues as there can be, 519: all processes in ready, or spread over all kinds */
+    MOST_READY = {"519, ready", any, nobody, FIRST_CONDITION, FORWARDS, never, &MOST},
+    MOST_SPREAD = {"519, spread", any, all_but_last, EACH_QUEUE, FORWARDS, never, &MOST};
 
 /* A scene of a size, and copies of it, as many as a small cache holds. */
 struct bench {
-    uint16_t processes, conditions;
+    uint16_t processes;
+    struct counts counts;
     uint16_t waited_on; /* the condition on which those of a scene wait who wait on one */
     uint16_t middle;    /* the process in the middle of ready */
     size_t words, stride, copies;
@@ -218,18 +232,47 @@ struct bench {
     uint16_t scene[MAX_WORDS];
     uint16_t pool[12288];
     uint16_t buffer[2 * MAX_PROCESSES];
+    uint8_t page[MAX_PAGE];
 };
 
-/* A process that is parked runs, and waits where it is to: on a condition by the second lock, which is free. */
+/* A process that is parked runs, and queues at a lock that is held. */
+static void queue_at(struct bench *b, unsigned lock, unsigned process)
+{
+    plain_requeue(b->scene, b->words, 1, 0, (uint16_t)process);
+    plain_enter(b->scene, b->words, (uint16_t)lock);
+}
+
+/* A process that is parked runs, and waits on a condition by the second lock, which is free. */
+static void wait_on(struct bench *b, const struct scene *s, unsigned condition, unsigned process)
+{
+    plain_requeue(b->scene, b->words, 1, 0, (uint16_t)process);
+    plain_enter(b->scene, b->words, 2);
+    plain_wait(b->scene, b->words, 2, (uint16_t)condition, s->ticks(process, b->processes));
+}
+
+/* By turns a process goes to a park behind the first, to a lock behind the second, to a condition, or stays. */
+static void spread(struct bench *b, const struct scene *s, unsigned process)
+{
+    unsigned turn = process / 4;
+    if (process % 4 == 1)
+        plain_requeue(b->scene, b->words, 1, (uint16_t)(2 + turn % (b->counts.parks - 1u)), (uint16_t)process);
+    else if (process % 4 == 2)
+        queue_at(b, 3 + turn % (b->counts.locks - 2u), process);
+    else if (process % 4 == 3)
+        wait_on(b, s, 1 + turn % b->counts.conditions, process);
+}
+
+/* A process that is parked goes where it is to wait. */
 static void lay_down(struct bench *b, const struct scene *s, unsigned process)
 {
-    uint16_t ticks = s->ticks(process, b->processes);
-    plain_requeue(b->scene, b->words, 1, 0, (uint16_t)process);
-    plain_enter(b->scene, b->words, s->place == FIRST_LOCK ? 1 : 2);
-    if (s->place == EACH_CONDITION)
-        plain_wait(b->scene, b->words, 2, (uint16_t)(1 + process % s->conditions), ticks);
-    else if (s->place != FIRST_LOCK)
-        plain_wait(b->scene, b->words, 2, b->waited_on, ticks);
+    if (s->place == EACH_QUEUE)
+        spread(b, s, process);
+    else if (s->place == FIRST_LOCK)
+        queue_at(b, 1, process);
+    else if (s->place == EACH_CONDITION)
+        wait_on(b, s, 1 + process % b->counts.conditions, process);
+    else
+        wait_on(b, s, b->waited_on, process);
 }
 
 static void lay_all_down(struct bench *b, const struct scene *s)
@@ -242,25 +285,32 @@ static void lay_all_down(struct bench *b, const struct scene *s)
     }
 }
 
+/* The last process takes every lock but the second. */
+static void hold_locks(struct bench *b)
+{
+    plain_requeue(b->scene, b->words, 1, 0, b->processes);
+    plain_enter(b->scene, b->words, 1);
+    for (unsigned lock = 3; lock <= b->counts.locks; lock++)
+        plain_enter(b->scene, b->words, (uint16_t)lock);
+    plain_requeue(b->scene, b->words, 0, 1, b->processes);
+}
+
 static void make(struct bench *b, const struct scene *s, uint16_t processes)
 {
     memset(b, 0, sizeof *b);
     b->processes = processes;
-    b->conditions = s->conditions;
-    b->waited_on = s->place == LAST_CONDITION ? s->conditions : 1;
-    b->words = KERNEL_AREA_WORDS(processes, LOCKS, s->conditions, PARKS);
+    b->counts = *s->counts;
+    b->waited_on = s->place == LAST_CONDITION ? b->counts.conditions : 1;
+    b->words = KERNEL_AREA_WORDS(processes, b->counts.locks, b->counts.conditions, b->counts.parks);
     b->stride = (b->words + 31) / 32 * 32;
     b->copies = sizeof b->pool / sizeof *b->pool / b->stride;
     for (unsigned process = 1; process <= processes; process++)
         b->priorities[process - 1] = s->priority(process, processes);
-    plain_start(b->scene, b->words, processes, LOCKS, s->conditions, PARKS, b->priorities, processes);
+    plain_start(b->scene, b->words, processes, b->counts.locks, b->counts.conditions, b->counts.parks, b->priorities, processes);
     for (unsigned process = 1; process <= processes; process++)
         plain_requeue(b->scene, b->words, 0, 1, (uint16_t)process);
-    if (s->place == FIRST_LOCK || s->place == HOLDERS_CONDITION) {
-        plain_requeue(b->scene, b->words, 1, 0, processes);
-        plain_enter(b->scene, b->words, 1);
-        plain_requeue(b->scene, b->words, 0, 1, processes);
-    }
+    if (s->place == FIRST_LOCK || s->place == HOLDERS_CONDITION || s->place == EACH_QUEUE)
+        hold_locks(b);
     lay_all_down(b, s);
     for (unsigned process = 1; process <= processes; process++)
         plain_requeue(b->scene, b->words, 1, 0, (uint16_t)process);
@@ -274,7 +324,7 @@ typedef uint64_t work(const struct calls *, struct bench *, uint16_t *area);
 
 static uint64_t do_start(const struct calls *c, struct bench *b, uint16_t *area)
 {
-    return c->start(area, b->words, b->processes, LOCKS, b->conditions, PARKS, b->priorities, b->processes);
+    return c->start(area, b->words, b->processes, b->counts.locks, b->counts.conditions, b->counts.parks, b->priorities, b->processes);
 }
 
 static uint64_t do_sound(const struct calls *c, struct bench *b, uint16_t *area)
@@ -310,8 +360,8 @@ static uint64_t do_wait(const struct calls *c, struct bench *b, uint16_t *area)
 
 static uint64_t do_naked_enter_wait(const struct calls *c, struct bench *b, uint16_t *area)
 {
-    return c->naked(area, b->words, b->conditions) + c->enter(area, b->words, 1) +
-           c->wait(area, b->words, 1, b->conditions, 0);
+    return c->naked(area, b->words, b->counts.conditions) + c->enter(area, b->words, 1) +
+           c->wait(area, b->words, 1, b->counts.conditions, 0);
 }
 
 static uint64_t do_enter_wait_notify(const struct calls *c, struct bench *b, uint16_t *area)
@@ -319,20 +369,20 @@ static uint64_t do_enter_wait_notify(const struct calls *c, struct bench *b, uin
     return c->enter(area, b->words, 1) + c->wait(area, b->words, 1, 1, 9) + c->notify(area, b->words, 1);
 }
 
-/* Nobody waits on the last of few conditions. */
+/* Nobody waits on the last condition. */
 static uint64_t do_notify_none(const struct calls *c, struct bench *b, uint16_t *area)
 {
-    return c->notify(area, b->words, FEW_CONDITIONS);
+    return c->notify(area, b->words, b->counts.conditions);
 }
 
 static uint64_t do_broadcast_none(const struct calls *c, struct bench *b, uint16_t *area)
 {
-    return c->broadcast(area, b->words, FEW_CONDITIONS);
+    return c->broadcast(area, b->words, b->counts.conditions);
 }
 
 static uint64_t do_naked_none(const struct calls *c, struct bench *b, uint16_t *area)
 {
-    return c->naked(area, b->words, FEW_CONDITIONS);
+    return c->naked(area, b->words, b->counts.conditions);
 }
 
 static uint64_t do_broadcast(const struct calls *c, struct bench *b, uint16_t *area)
@@ -380,6 +430,11 @@ static uint64_t do_nearest(const struct calls *c, struct bench *b, uint16_t *are
     return c->nearest(area, b->words);
 }
 
+static uint64_t do_sheet(const struct calls *c, struct bench *b, uint16_t *area)
+{
+    return c->sheet(area, b->words, b->page, sizeof b->page);
+}
+
 static const struct row {
     const char *name;
     work *work;
@@ -425,6 +480,9 @@ static const struct row {
     {"nearest", do_nearest, &TIMED_FALLING},
     {"nearest", do_nearest, &TIMED_ANY},
     {"nearest", do_nearest, &WAITING},
+    {"sheet", do_sheet, &READY_ANY},
+    {"sheet", do_sheet, &MOST_READY},
+    {"sheet", do_sheet, &MOST_SPREAD},
     {"broadcast to all", do_broadcast, &EQUAL},
     {"broadcast to all", do_broadcast, &ANY},
     {"broadcast to all", do_broadcast, &RISING},
@@ -481,14 +539,18 @@ static unsigned batches_of(work *w, struct bench *b)
 static bool agree(work *w, struct bench *b)
 {
     static uint16_t area[MAX_WORDS], buffer[2 * MAX_PROCESSES];
+    static uint8_t page[MAX_PAGE];
     memcpy(area, b->scene, sizeof area);
     memset(b->buffer, 0, sizeof b->buffer);
+    memset(b->page, 0, sizeof b->page);
     uint64_t answer = w(&PLAIN, b, area);
     memcpy(buffer, b->buffer, sizeof buffer);
+    memcpy(page, b->page, sizeof page);
     memcpy(b->pool, b->scene, sizeof area);
     memset(b->buffer, 0, sizeof b->buffer);
+    memset(b->page, 0, sizeof b->page);
     return w(&LIBRARY, b, b->pool) == answer && memcmp(b->pool, area, sizeof area) == 0 &&
-           memcmp(b->buffer, buffer, sizeof buffer) == 0;
+           memcmp(b->buffer, buffer, sizeof buffer) == 0 && memcmp(b->page, page, sizeof page) == 0;
 }
 
 enum { PASSES = 8, ROUNDS = 16 };

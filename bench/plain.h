@@ -1,6 +1,6 @@
 /* A process kernel in plain C with the library's signatures: the baseline of the benchmarks.
- * Lengths are in elements. Answers have ten bits a field, code lowest; those of due and nearest
- * have twenty. */
+ * Lengths are in elements. Answers have ten bits a field, code lowest; those of due, nearest and
+ * sheet have twenty. */
 #ifndef PLAIN_H
 #define PLAIN_H
 
@@ -27,5 +27,6 @@ uint64_t plain_list(const uint16_t *area, size_t len, uint16_t kind, uint16_t nu
 uint64_t plain_due(const uint16_t *area, size_t len, uint16_t ticks, uint16_t *buffer,
                    size_t buffer_len);
 uint64_t plain_nearest(const uint16_t *area, size_t len);
+uint64_t plain_sheet(const uint16_t *area, size_t len, uint8_t *page, size_t page_len);
 
 #endif

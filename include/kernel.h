@@ -7,12 +7,12 @@
  * Processes, monitor locks, conditions and parks are numbered from 1; process 0 means none. Priorities are 0 to 7, 7 the highest.
  *
  * Any area, of any length and content, with any numbers beside it, is answered. A refused call changes no word of the area or of a
- * buffer, and answers zeros beside its code. An area that is not sound (spoiled memory, say) is refused with KERNEL_UNSOUND by every
- * call but kernel_start, which overwrites it, and kernel_sound, which says 0.
+ * buffer and no byte of a page, and answers zeros beside its code. An area that is not sound (spoiled memory, say) is refused with
+ * KERNEL_UNSOUND by every call but kernel_start, which overwrites it, and kernel_sound, which says 0.
  *
- * Lengths are in elements: words of an area or a buffer, bytes of a priority list. The pointers of a call must be valid for the lengths
- * beside them and properly aligned (2 bytes for words), a pointer of length 0 included, and no two of them may overlap. A call reads no
- * word of the area beyond its size (KERNEL_AREA_WORDS) and writes none. Calls on one area must not run at the same time: mask
+ * Lengths are in elements: words of an area or a buffer, bytes of a priority list or a page. The pointers of a call must be valid for the
+ * lengths beside them and properly aligned (2 bytes for words), a pointer of length 0 included, and no two of them may overlap. A call
+ * reads no word of the area beyond its size (KERNEL_AREA_WORDS) and writes none. Calls on one area must not run at the same time: mask
  * interrupts around a call, or make every call from one place.
  *
  * Time: a call first checks the area, every process and every queue once. What it does beyond that is at worst linear, but for due, which
@@ -21,9 +21,9 @@
  * that their process joins once, to count who is ahead; 2 P for requeue, which looks for the process first; P + C for a tick at which
  * somebody is due, with two passes over the P timers, and one pass over these where nobody is; P for list, 2 P into a buffer of fewer than
  * P words. nearest takes one pass over the timers; due takes one where nobody is due, else two, and about n log n steps to sort the n that
- * it tells. README.md has measured times.
+ * it tells. sheet walks every queue once, which is P steps in all, and writes 29 bytes a queue. README.md has measured times.
  *
- * A call takes less than 416 bytes of stack (320 measured at most, on x86-64). */
+ * A call takes less than 416 bytes of stack (352 measured at most, on x86-64). */
 #ifndef KERNEL_H
 #define KERNEL_H
 
@@ -52,8 +52,8 @@ extern "C" {
 /* kernel_list answers two: the code, and */
 #define KERNEL_COUNT(a) ((unsigned)((a) >> 10 & 1023u))     /* how many processes were written */
 
-/* kernel_due and kernel_nearest answer twenty bits a field. The macros above are not for their answers: KERNEL_COUNT, say, would always
- * find 0 there. kernel_due answers two fields: */
+/* kernel_due, kernel_nearest and kernel_sheet answer twenty bits a field. The macros above are not for their answers: KERNEL_COUNT, say,
+ * would always find 0 there. kernel_due answers two fields: */
 #define KERNEL_DUE_CODE(a) ((unsigned)((a) & 0xFFFFFu))
 #define KERNEL_DUE_COUNT(a) ((unsigned)((a) >> 20 & 0xFFFFFu))       /* how many processes were told, two words each */
 
@@ -62,6 +62,10 @@ extern "C" {
 #define KERNEL_NEAREST_PROCESS(a) ((unsigned)((a) >> 20 & 0xFFFFFu)) /* 0 if no timer is set */
 #define KERNEL_NEAREST_TICKS(a) ((uint32_t)((a) >> 40 & 0xFFFFFu))   /* 1 to 65,536, too wide for a uint16_t; 0 if no timer is set */
 
+/* kernel_sheet answers two: */
+#define KERNEL_SHEET_CODE(a) ((unsigned)((a) & 0xFFFFFu))
+#define KERNEL_SHEET_BYTES(a) ((unsigned)((a) >> 20 & 0xFFFFFu))     /* how many bytes were written */
+
 /* ---- codes, in the order in which each call tests them as listed there */
 
 #define KERNEL_OK 0
@@ -69,7 +73,7 @@ extern "C" {
 #define KERNEL_BAD_COUNT 2    /* a count out of range */
 #define KERNEL_BAD_LIST 3     /* the list is not as long as there are processes */
 #define KERNEL_BAD_PRIORITY 4 /* a priority above 7 */
-#define KERNEL_SHORT 5        /* the area or the buffer is too short */
+#define KERNEL_SHORT 5        /* the area, the buffer or the page is too short */
 #define KERNEL_NOBODY 6       /* nobody runs */
 #define KERNEL_NO_SUCH 7      /* no such lock, condition, park, process or queue */
 #define KERNEL_HELD 8         /* the running process holds the lock already */
@@ -81,6 +85,9 @@ extern "C" {
 /* how many words an area of these counts takes */
 #define KERNEL_AREA_WORDS(processes, locks, conditions, parks) \
     (6u + (parks) + 2u * (locks) + (conditions) + 3u * (processes))
+
+/* how many bytes the page of kernel_sheet takes for these, at most 15,051 */
+#define KERNEL_PAGE_BYTES(locks, conditions, parks) (29u * (1u + (parks) + (locks) + (conditions)))
 
 /* Makes an area anew, whatever it holds: clock 0, every process in ready by its priority, locks free, no timer. processes 1 to 1,023,
  * locks and conditions 0 to 255, parks 0 to 8; priorities has one byte for each process. Words beyond the area's size stay.
@@ -148,6 +155,25 @@ uint64_t kernel_due(const uint16_t *area, size_t len, uint16_t ticks, uint16_t *
  * sleep in which nobody runs: no tick before moves anybody. Where no timer is set it answers 0 and 0, and no tick moves anybody at all.
  * Another call, from an interrupt handler say, may change this: ask again then. Code: 1. */
 uint64_t kernel_nearest(const uint16_t *area, size_t len);
+
+/* Writes the yard sheet to the front of page: a row of 28 columns and a newline ('\n') for ready, each park, each lock and each condition,
+ * in this order, and by number.
+ *
+ *     columns  1-2   RD, PK, LK or CN
+ *              4-6   the queue's number, 0 for ready
+ *              8-11  how many processes stand there
+ *             13-16  the first of them
+ *             18-21  the last of them
+ *             23-26  the holder of a lock
+ *             28     1 if a condition has a wakeup stored
+ *
+ * Numbers are decimal and right-aligned, 0 where a queue has none; the rest is spaces. Lock 1, which process 2 holds and 5 and 17 queue for:
+ *
+ *     LK   1    2    5   17    2 0
+ *
+ * These are KERNEL_PAGE_BYTES bytes, at most 15,051, and no 0 byte ends them: print them by their number. The bytes past them stay, and
+ * the area is not changed. examples/sheet.c prints a page. Codes: 1, 5 (a page of fewer bytes). */
+uint64_t kernel_sheet(const uint16_t *area, size_t len, uint8_t *page, size_t page_len);
 
 #ifdef __cplusplus
 }

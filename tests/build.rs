@@ -5,7 +5,7 @@ use std::env;
 use std::path::{Path, PathBuf};
 use std::process::Command;
 
-const EXPORTS: [&str; 14] = [
+const EXPORTS: [&str; 15] = [
     "kernel_start",
     "kernel_sound",
     "kernel_enter",
@@ -20,6 +20,7 @@ const EXPORTS: [&str; 14] = [
     "kernel_list",
     "kernel_due",
     "kernel_nearest",
+    "kernel_sheet",
 ];
 
 fn main() {

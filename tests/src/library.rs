@@ -45,6 +45,7 @@ extern "C" {
         buffer_len: usize,
     ) -> u64;
     fn kernel_nearest(area: *const u16, len: usize) -> u64;
+    fn kernel_sheet(area: *const u16, len: usize, page: *mut u8, page_len: usize) -> u64;
 }
 
 pub fn sound(area: &[u16]) -> u64 {
@@ -78,6 +79,10 @@ pub fn due(area: &[u16], ticks: u16, buffer: &mut [u16]) -> u64 {
 
 pub fn nearest(area: &[u16]) -> u64 {
     unsafe { kernel_nearest(area.as_ptr(), area.len()) }
+}
+
+pub fn sheet(area: &[u16], page: &mut [u8]) -> u64 {
+    unsafe { kernel_sheet(area.as_ptr(), area.len(), page.as_mut_ptr(), page.len()) }
 }
 
 /// Does a call, and answers its packed answer.

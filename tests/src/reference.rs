@@ -843,3 +843,53 @@ pub fn due(timed: &[Timed], ticks: u16, buffer: &mut [u16]) -> (u32, u32) {
     }
     (0, told.len() as u32)
 }
+
+// The yard sheet.
+
+/// Puts a text into these columns of a line, the first column being 1, as far right as it goes.
+fn fill(line: &mut [u8], (from, to): (usize, usize), text: &str) {
+    assert!(
+        text.len() <= to - from + 1,
+        "{text} in columns {from} to {to}"
+    );
+    line[to - text.len()..to].copy_from_slice(text.as_bytes());
+}
+
+impl State {
+    /// A line for each queue.
+    pub fn sheet(&self) -> Vec<u8> {
+        let queues = self.shape.queues();
+        queues.iter().flat_map(|&queue| self.line(queue)).collect()
+    }
+
+    fn line(&self, queue: Queue) -> Vec<u8> {
+        let (name, number, holder, wakeup) = match queue {
+            Queue::Ready => ("RD", 0, 0, false),
+            Queue::Park(number) => ("PK", number, 0, false),
+            Queue::Lock(number) => ("LK", number, self.lock(number).holder, false),
+            Queue::Condition(number) => ("CN", number, 0, self.condition(number).wakeup),
+        };
+        let members = self.queue(queue);
+        let first = members.first().unwrap_or(&0);
+        let last = members.last().unwrap_or(&0);
+        let mut line = vec![b' '; 28];
+        fill(&mut line, (1, 2), name);
+        fill(&mut line, (4, 6), &number.to_string());
+        fill(&mut line, (8, 11), &members.len().to_string());
+        fill(&mut line, (13, 16), &first.to_string());
+        fill(&mut line, (18, 21), &last.to_string());
+        fill(&mut line, (23, 26), &holder.to_string());
+        fill(&mut line, (28, 28), if wakeup { "1" } else { "0" });
+        line.push(b'\n');
+        line
+    }
+}
+
+/// Sheet: puts the lines onto a page; answers code and bytes.
+pub fn sheet(lines: &[u8], page: &mut [u8]) -> (u32, u32) {
+    if page.len() < lines.len() {
+        return (5, 0);
+    }
+    page[..lines.len()].copy_from_slice(lines);
+    (0, lines.len() as u32)
+}

@@ -12,15 +12,15 @@ use Rattle.area.specs.Reading.{Agree}
 use Rattle.area.specs.Sound.{Sound}
 use Rattle.area.proofs.Agreeing.{agree-back, sound-same}
 use Rattle.start.specs.Start.{Starts}
-use Rattle.monitor.specs.Calls.{Performs, ListsOn, TellsOn, NearestOn}
+use Rattle.monitor.specs.Calls.{Performs, ListsOn, TellsOn, SheetsOn, NearestOn}
 use Rattle.wire.specs.Wire.{packed, answerOf, reportOf, nearestOf}
 use Rattle.monitor.specs.History.{Run}
 use Rattle.monitor.specs.History.Run.{none, then}
 use Rattle.monitor.proofs.History.{run-ends}
 use Rattle.wire.proofs.Wire.{read-answer, read-report, read-nearest}
 use Rattle.monitor.proofs.Promises.{performs-spares, starts-spares, performs-keeps, starts-keeps, performs-alike, starts-alike}
-use Rattle.monitor.proofs.Readings.{reads-spares, reads-alike, lists-determined, tells-determined, nearest-spares, nearest-alike}
-use Rattle.kernel.specs.Exports.{Conveys, Crosses, Begins, Writes, Dues, Nears, Judges}
+use Rattle.monitor.proofs.Readings.{reads-spares, reads-alike, lists-determined, tells-determined, sheets-determined, nearest-spares, nearest-alike}
+use Rattle.kernel.specs.Exports.{Conveys, Crosses, Begins, Writes, Dues, Pages, Nears, Judges}
 use Rattle.kernel.specs.Demands.{Demand1, Demand2, Demand3, Beyond}
 
 -- ---- what is read back keeps the promise
@@ -40,6 +40,9 @@ listed C = kept C (read-report 10 (C .carries))
 
 told : (k : ℕ) {ws old new : List ℕ} {r : ℕ} → Dues k ws old new r → TellsOn k ws old new (reportOf 20 r)
 told k C = kept C (read-report 20 (C .carries))
+
+sheeted : {ws old new : List ℕ} {r : ℕ} → Pages ws old new r → SheetsOn ws old new (reportOf 20 r)
+sheeted C = kept C (read-report 20 (C .carries))
 
 neared : {ws : List ℕ} {r : ℕ} → Nears ws r → NearestOn ws (nearestOf r)
 neared C = kept C (read-nearest (C .carries))
@@ -61,6 +64,7 @@ demand1 = record {
   unsound-call = λ C u. crossed C .unsound u;
   unsound-list = λ W u. listed W .unsound u;
   unsound-due = λ k D u. told k D .unsound u;
+  unsound-sheet = λ P u. sheeted P .unsound u;
   unsound-nearest = λ N u. neared N .unsound u;
   unsound-sound = not-sound;
   overwrites = λ B D la lb. let s = starts-alike la lb (B .keeps) (D .keeps) in (same-number B D (s .0), λ z. s .1 (ap {A = Answer} (λ a. a .code) (read-answer (B .carries)) ∙ z));
@@ -68,11 +72,12 @@ demand1 = record {
   refused-start = λ B. starts-spares (begun B);
   refused-list = λ W. reads-spares (lists-determined _ _) (listed W);
   refused-due = λ k D. reads-spares (tells-determined k) (told k D);
+  refused-sheet = λ P. reads-spares sheets-determined (sheeted P);
   refused-nearest = λ N. nearest-spares (neared N);
 }
 
 pub demand2 : Demand2
-demand2 = record { call = crossed; start = begun; list = listed; due = told; nearest = neared; sound = λ J. J .says }
+demand2 = record { call = crossed; start = begun; list = listed; due = told; sheet = sheeted; nearest = neared; sound = λ J. J .says }
 
 pub run-crossed : {cs : List Call} {old new : List ℕ} {rs : List ℕ} → Run Crosses cs old new rs → Run Performs cs old new (map answerOf rs)
 run-crossed none = none
@@ -97,6 +102,7 @@ beyond = record {
   call = λ A C D. let p = performs-alike A (C .keeps) (D .keeps) in (same-number C D (p .0), p .1);
   list = λ A C D. let p = reads-alike (lists-determined _ _) A (C .keeps) (D .keeps) in (same-number C D (p .0), p .1);
   due = λ k A C D. let p = reads-alike (tells-determined k) A (C .keeps) (D .keeps) in (same-number C D (p .0), p .1);
+  sheet = λ A C D. let p = reads-alike sheets-determined A (C .keeps) (D .keeps) in (same-number C D (p .0), p .1);
   nearest = λ A C D. same-number C D (nearest-alike A (C .keeps) (D .keeps));
   sound = judged-alike;
 }

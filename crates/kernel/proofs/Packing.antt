@@ -12,12 +12,12 @@ use Rattle.model.specs.Machine.{fieldsOf}
 use Rattle.area.specs.Sound.{Sound}
 use Rattle.start.specs.Start.{Starts}
 use Rattle.timers.specs.declared.Earliest.{Earliest}
-use Rattle.monitor.specs.Calls.{Performs, ListsOn, TellsOn, NearestOn}
+use Rattle.monitor.specs.Calls.{Performs, ListsOn, TellsOn, SheetsOn, NearestOn}
 use Rattle.wire.specs.Wire.{packed, Carries, reportFields, nearestFields, numberOf}
 use Rattle.wire.proofs.Wire.{Fit, carries}
 use Rattle.monitor.proofs.Promises.{performs-fits, starts-fits}
-use Rattle.monitor.proofs.Readings.{lists-fits, tells-fits, nearest-fits}
-use Rattle.kernel.specs.Exports.{Conveys, Crosses, Begins, Writes, Dues, Nears, Judges}
+use Rattle.monitor.proofs.Readings.{lists-fits, tells-fits, sheets-fits, nearest-fits}
+use Rattle.kernel.specs.Exports.{Conveys, Crosses, Begins, Writes, Dues, Pages, Nears, Judges}
 
 -- an export's contract, whatever the call: from what is promised of the answer, and the answer's number
 conveys : {A : Type 0} {w r : ℕ} (fields : A → List ℕ) {promised : A → Type 0} (a : A) → promised a → r ≡ packed w (fields a) → Fit w (fields a) → Conveys w fields promised r
@@ -38,6 +38,9 @@ writes {a = a} L e = conveys reportFields a L e (lists-fits L)
 
 pub dues : (k : ℕ) {ws old new : List ℕ} {a : Report} {r : ℕ} → TellsOn k ws old new a → r ≡ packed 20 (reportFields a) → Dues k ws old new r
 dues k {a = a} T e = conveys reportFields a T e (tells-fits k T)
+
+pub pages : {ws old new : List ℕ} {a : Report} {r : ℕ} → SheetsOn ws old new a → r ≡ packed 20 (reportFields a) → Pages ws old new r
+pages {a = a} S e = conveys reportFields a S e (sheets-fits S)
 
 pub nears : {ws : List ℕ} {a : Earliest} {r : ℕ} → NearestOn ws a → r ≡ packed 20 (nearestFields a) → Nears ws r
 nears {a = a} N e = conveys nearestFields a N e (nearest-fits N)

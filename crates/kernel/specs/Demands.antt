@@ -14,11 +14,11 @@ use Rattle.area.specs.Layout.{size}
 use Rattle.area.specs.Reading.{shapeOf, Agree}
 use Rattle.area.specs.Sound.{Sound}
 use Rattle.start.specs.Start.{Starts}
-use Rattle.monitor.specs.Calls.{Performs, ListsOn, TellsOn, NearestOn, Spares}
+use Rattle.monitor.specs.Calls.{Performs, ListsOn, TellsOn, SheetsOn, NearestOn, Spares}
 use Rattle.wire.specs.Wire.{answerOf, reportOf, nearestOf}
 use Rattle.monitor.specs.History as history
 use Rattle.monitor.specs.Ticks.{WakesIn, Still}
-use Rattle.kernel.specs.Exports.{Crosses, Begins, Writes, Dues, Nears, Judges}
+use Rattle.kernel.specs.Exports.{Crosses, Begins, Writes, Dues, Pages, Nears, Judges}
 
 -- 1. Every area and every number is answered, since no export requires anything; and a wrong number gets the refusal that the rules of demand 2
 -- name. Besides:
@@ -27,16 +27,18 @@ pub record Demand1 : Type 0 where
   pub unsound-call : {c : Call} {old new : List ℕ} {r : ℕ} → Crosses c old new r → (Sound old → ⊥) → (answerOf r ≡ refusal 1) × (new ≡ old)
   pub unsound-list : {kind number : ℕ} {ws old new : List ℕ} {r : ℕ} → Writes kind number ws old new r → (Sound ws → ⊥) → Refused old new (reportOf 10 r) 1
   pub unsound-due : (k : ℕ) {ws old new : List ℕ} {r : ℕ} → Dues k ws old new r → (Sound ws → ⊥) → Refused old new (reportOf 20 r) 1
+  pub unsound-sheet : {ws old new : List ℕ} {r : ℕ} → Pages ws old new r → (Sound ws → ⊥) → Refused old new (reportOf 20 r) 1
   pub unsound-nearest : {ws : List ℕ} {r : ℕ} → Nears ws r → (Sound ws → ⊥) → nearestOf r ≡ record { code = 1; process = 0; left = 0 }
   pub unsound-sound : {ws : List ℕ} {r : ℕ} → Judges ws r → (Sound ws → ⊥) → r ≡ 0
   -- Start overwrites it: what an area long enough held makes no difference
   pub overwrites : {n : Shape} {bytes a b a′ b′ : List ℕ} {r s : ℕ} → Begins n bytes a a′ r → Begins n bytes b b′ s → size n ≤ length a → size n ≤ length b
       → (r ≡ s) × (answerOf r .code ≡ 0 → take (size n) a′ ≡ take (size n) b′)
-  -- a refusal, whatever its code, answers zeros beside it and changes no word of the area or of the buffer
+  -- a refusal, whatever its code, answers zeros beside it and changes no word of the area and nothing in the buffer
   pub refused-call : {c : Call} {old new : List ℕ} {r : ℕ} → Crosses c old new r → Spares (answerOf r) old new
   pub refused-start : {n : Shape} {bytes old new : List ℕ} {r : ℕ} → Begins n bytes old new r → Spares (answerOf r) old new
   pub refused-list : {kind number : ℕ} {ws old new : List ℕ} {r : ℕ} → Writes kind number ws old new r → reportOf 10 r .code ≢ 0 → Refused old new (reportOf 10 r) (reportOf 10 r .code)
   pub refused-due : (k : ℕ) {ws old new : List ℕ} {r : ℕ} → Dues k ws old new r → reportOf 20 r .code ≢ 0 → Refused old new (reportOf 20 r) (reportOf 20 r .code)
+  pub refused-sheet : {ws old new : List ℕ} {r : ℕ} → Pages ws old new r → reportOf 20 r .code ≢ 0 → Refused old new (reportOf 20 r) (reportOf 20 r .code)
   pub refused-nearest : {ws : List ℕ} {r : ℕ} → Nears ws r → nearestOf r .code ≢ 0 → nearestOf r ≡ record { code = nearestOf r .code; process = 0; left = 0 }
 
 -- 2. What is read back out of an export's number is the answer that the rules give, with every word as they give it
@@ -45,6 +47,7 @@ pub record Demand2 : Type 0 where
   pub start : {n : Shape} {bytes old new : List ℕ} {r : ℕ} → Begins n bytes old new r → Starts n bytes old new (answerOf r)
   pub list : {kind number : ℕ} {ws old new : List ℕ} {r : ℕ} → Writes kind number ws old new r → ListsOn kind number ws old new (reportOf 10 r)
   pub due : (k : ℕ) {ws old new : List ℕ} {r : ℕ} → Dues k ws old new r → TellsOn k ws old new (reportOf 20 r)
+  pub sheet : {ws old new : List ℕ} {r : ℕ} → Pages ws old new r → SheetsOn ws old new (reportOf 20 r)
   pub nearest : {ws : List ℕ} {r : ℕ} → Nears ws r → NearestOn ws (nearestOf r)
   pub sound : {ws : List ℕ} {r : ℕ} → Judges ws r → (r ≡ 1) ↔ Sound ws
 
@@ -69,5 +72,6 @@ pub record Beyond : Type 0 where
       → (r ≡ s) × (take (size (shapeOf a)) a′ ≡ take (size (shapeOf a)) b′)
   pub list : {kind number : ℕ} {a b old new other : List ℕ} {r s : ℕ} → Agree a b → Writes kind number a old new r → Writes kind number b old other s → (r ≡ s) × (new ≡ other)
   pub due : (k : ℕ) {a b old new other : List ℕ} {r s : ℕ} → Agree a b → Dues k a old new r → Dues k b old other s → (r ≡ s) × (new ≡ other)
+  pub sheet : {a b old new other : List ℕ} {r s : ℕ} → Agree a b → Pages a old new r → Pages b old other s → (r ≡ s) × (new ≡ other)
   pub nearest : {a b : List ℕ} {r s : ℕ} → Agree a b → Nears a r → Nears b s → r ≡ s
   pub sound : {a b : List ℕ} {r s : ℕ} → Agree a b → Judges a r → Judges b s → r ≡ s

@@ -8,7 +8,7 @@ use Rattle.model.specs.declared.Call.{Call}
 use Rattle.model.specs.Machine.{fieldsOf}
 use Rattle.area.specs.Sound.{Sound}
 use Rattle.start.specs.Start.{Starts}
-use Rattle.monitor.specs.Calls.{Performs, ListsOn, TellsOn, NearestOn}
+use Rattle.monitor.specs.Calls.{Performs, ListsOn, TellsOn, SheetsOn, NearestOn}
 use Rattle.wire.specs.Wire.{Carries, reportFields, nearestFields}
 
 -- r carries an answer as promised: it is the number of the answer's fields, w bits each, and every field comes back out of it
@@ -32,6 +32,10 @@ Writes kind number ws old new r = Conveys 10 reportFields (ListsOn kind number w
 -- who is due within k ticks: refused by 1, 5 in this order, the buffer is as it was; else they stand at its front, and the rest is as it was
 abbrev pub Dues : ℕ → List ℕ → List ℕ → List ℕ → ℕ → Type 0
 Dues k ws old new r = Conveys 20 reportFields (TellsOn k ws old new) r
+
+-- the yard sheet: refused by 1, 5 in this order, the page is as it was; else the sheet stands at its front, and the bytes past it are as they were
+abbrev pub Pages : List ℕ → List ℕ → List ℕ → ℕ → Type 0
+Pages ws old new r = Conveys 20 reportFields (SheetsOn ws old new) r
 
 -- who is the nearest: refused by 1 alone
 abbrev pub Nears : List ℕ → ℕ → Type 0

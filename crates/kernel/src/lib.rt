@@ -11,7 +11,7 @@ ghost use Rattle.model.specs.declared.Call.the-variants.{Enter, Exit, Wait, Not
 ghost use Rattle.model.specs.Machine.{fieldsOf};
 ghost use Rattle.monitor.specs.Calls.{Performs};
 ghost use Rattle.wire.specs.Wire.{Carries};
-ghost use Rattle.kernel.specs.Exports.{Crosses, Begins, Judges, Writes, Dues, Nears};
+ghost use Rattle.kernel.specs.Exports.{Crosses, Begins, Judges, Writes, Dues, Pages, Nears};
 
 // ---- Start and Sound
 
@@ -137,6 +137,13 @@ pub extern "C" fn kernel_due(area: &[u16], ticks: u16, buffer: &mut [u16]) -> u6
     ensures { λ r. ⌜ Dues ticks (now (area .entry)) (now (buffer .entry)) (now (buffer .exit)) r ⌝ }
 {
     wire::pack_report(monitor::due(area, Ticks(ticks), buffer))
+}
+
+#[no_mangle]
+pub extern "C" fn kernel_sheet(area: &[u16], page: &mut [u8]) -> u64
+    ensures { λ r. ⌜ Pages (now (area .entry)) (now (page .entry)) (now (page .exit)) r ⌝ }
+{
+    wire::pack_report(monitor::sheet(area, page))
 }
 
 #[no_mangle]

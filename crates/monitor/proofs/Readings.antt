@@ -1,4 +1,4 @@
--- What follows from the promise of a read alone, for List, for who is due and for who is the nearest. What a read tells is one list of numbers,
+-- What follows from the promise of a read alone, for List, who is due, the yard sheet and who is the nearest. What a read tells is one list of numbers,
 -- its fields and then its buffer, which a sound area's state determines: so a refusal spares the buffer, areas that agree below their size are
 -- told alike, and each field has the bits that it crosses in. For a read into a buffer these are laws of what its promise says of each state
 -- (`Determined`). Assumes nothing.
@@ -25,10 +25,12 @@ use Rattle.area.specs.Sound.{Sound}
 use Rattle.area.proofs.Whole.{counts-in}
 use Rattle.area.proofs.Agreeing.{shape-same, state-same, sound-same}
 use Rattle.queues.specs.Listing.{queueBy, isQueue, Lists}
+use Rattle.sheet.specs.Sheet.{page, Sheets}
+use Rattle.sheet.proofs.Rows.{page-length}
 use Rattle.timers.specs.declared.Earliest.{Earliest}
 use Rattle.timers.specs.Telling.{inWords, Tells, nearestIn}
 use Rattle.timers.proofs.Dues.{count-all, due-few}
-use Rattle.monitor.specs.Calls.{ReadsOn, ListsOn, TellsOn, NearestOn}
+use Rattle.monitor.specs.Calls.{ReadsOn, ListsOn, TellsOn, SheetsOn, NearestOn}
 use Rattle.wire.specs.Wire.{reportFields, nearestFields}
 use Rattle.wire.proofs.Wire.{Fit, reportFrom, earliestFrom}
 use Rattle.monitor.proofs.Promises.{settle, lists?, unsound-same, fit?}
@@ -189,6 +191,15 @@ tells-determined k = reports-determined (λ n s. length (dueWithin n s k)) (λ n
 -- twenty bits: nobody is told twice
 pub tells-fits : (k : ℕ) {ws old new : List ℕ} {r : Report} → TellsOn k ws old new r → Fit 20 (reportFields r)
 tells-fits k {ws} = reads-fits (tells-determined k) 20 (omega arith) (λ S. omega (arith, counts-in (shapeOf ws) (S .valid .placed .counts) .processes, due-length (shapeOf ws) (stateOf ws) k))
+
+-- ---- the yard sheet
+
+abbrev pub sheets-determined : Determined Sheets
+sheets-determined = reports-determined (λ n s. length (page n s)) page
+
+-- twenty bits: a page has 29 bytes for each of at most 519 queues
+pub sheets-fits : {ws old new : List ℕ} {r : Report} → SheetsOn ws old new r → Fit 20 (reportFields r)
+sheets-fits {ws} = reads-fits sheets-determined 20 (omega arith) (λ S. let c = counts-in (shapeOf ws) (S .valid .placed .counts) in omega (arith, page-length (shapeOf ws) (stateOf ws)))
 
 -- ---- who is the nearest
 

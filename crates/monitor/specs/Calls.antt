@@ -13,6 +13,7 @@ use Rattle.area.specs.State.{write}
 use Rattle.area.specs.Reading.{shapeOf, stateOf}
 use Rattle.area.specs.Sound.{Sound}
 use Rattle.queues.specs.Listing.{Lists}
+use Rattle.sheet.specs.Sheet.{Sheets}
 use Rattle.timers.specs.declared.Earliest.{Earliest}
 use Rattle.timers.specs.Telling.{Tells, nearestIn}
 
@@ -22,7 +23,7 @@ pub record Performs (c : Call) (old new : List ℕ) (a : Answer) : Type 0 where
   pub unsound : (Sound old → ⊥) → (a ≡ refusal 1) × (new ≡ old)
   pub sound : Sound old → (a ≡ (step model (shapeOf old) (stateOf old) c) .1) × (new ≡ write (shapeOf old) ((step model (shapeOf old) (stateOf old) c) .0) old)
 
--- a read into a buffer: an unsound area is refused by 1; of a sound one its state is told, as promised; a refusal changes no word of the buffer
+-- a read into a buffer: an unsound area is refused by 1; of a sound one its state is told, as promised; a refusal changes nothing in the buffer
 pub record ReadsOn (told : Shape → State model → List ℕ → List ℕ → Report → Type 0) (ws old new : List ℕ) (r : Report) : Type 0 where
   pub unsound : (Sound ws → ⊥) → Refused old new r 1
   pub sound : Sound ws → told (shapeOf ws) (stateOf ws) old new r
@@ -34,6 +35,10 @@ ListsOn kind number = ReadsOn (Lists kind number)
 -- who is due within k ticks
 abbrev pub TellsOn : ℕ → List ℕ → List ℕ → List ℕ → Report → Type 0
 TellsOn k = ReadsOn (Tells k)
+
+-- the yard sheet, on a page of bytes
+abbrev pub SheetsOn : List ℕ → List ℕ → List ℕ → Report → Type 0
+SheetsOn = ReadsOn Sheets
 
 -- who is the nearest: an unsound area is refused by 1; of a sound one its state is told
 pub record NearestOn (ws : List ℕ) (r : Earliest) : Type 0 where

@@ -9,7 +9,7 @@ use timers::Earliest;
 ghost use mathlib.Core.Path.{_≡_};
 ghost use Rattle.model.specs.declared.Call.the-variants.{Enter, Exit, Wait, Notify, Broadcast, Naked, Requeue, SetPriority, Tick};
 ghost use Rattle.model.specs.Machine.{refusal};
-ghost use Rattle.monitor.specs.Calls.{Performs, ListsOn, TellsOn, NearestOn};
+ghost use Rattle.monitor.specs.Calls.{Performs, ListsOn, TellsOn, SheetsOn, NearestOn};
 
 // ---- the calls, each on any words: it is asked whether the area is sound, and the crate that has the call makes it
 
@@ -164,6 +164,17 @@ pub fn due(area: &[u16], ticks: Ticks, buffer: &mut [u16]) -> Report
     }
     let shape = area::shape_of(area);
     timers::due(area, shape, ticks, buffer)
+}
+
+// The yard sheet: a row for each queue, on a page of bytes.
+pub fn sheet(area: &[u16], page: &mut [u8]) -> Report
+    ensures { λ r. ⌜ SheetsOn (now (area .entry)) (now (page .entry)) (now (page .exit)) r ⌝ }
+{
+    if !sound::sound(area) {
+        return unread();
+    }
+    let shape = area::shape_of(area);
+    sheet::sheet(area, shape, page)
 }
 
 // Who is the nearest, and its ticks left.

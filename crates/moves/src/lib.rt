@@ -14,6 +14,7 @@ ghost use Rattle.model.specs.Machine.{State, model};
 ghost use Rattle.ring.specs.Ring.{Arrived};
 ghost use Rattle.area.specs.Layout.{at, recordsAt};
 ghost use Rattle.area.specs.Layout.Slot.{Tail};
+ghost use Rattle.area.specs.State.{last};
 ghost use Rattle.area.specs.Holds.{Holds, Held, Becomes, Tried, Moves, with, sent};
 ghost use Rattle.area.specs.Rings.{Leaves, Joins, Relinked, ranks};
 
@@ -28,6 +29,15 @@ pub fn first_in(area: &[u16], shape: Shape, i: usize) -> u16
     let at = area::records_at(shape);
     let tail = links::next_field(area[i]);
     ring::first_of(&area[at..], tail)
+}
+
+// The last of the queue whose tail stands at i, 0 if it is empty.
+pub fn last_in(area: &[u16], shape: Shape, i: usize) -> u16
+    requires { ⌜ Held shape (now area) ⌝ }
+    requires { ⌜ ((q : Queue) × (exists shape q ≡ true) × (i ≡ at shape (Tail q))) ⌝ }
+    ensures { λ r. ⌜ ((s : State model) (q : Queue) → Holds shape (now (area .entry)) s → exists shape q ≡ true → i ≡ at shape (Tail q) → r ≡ last (s .queues q)) ⌝ }
+{
+    links::next_field(area[i])
 }
 
 // How many processes the queue whose tail stands at i has.

@@ -79,11 +79,14 @@ pub record Found (n : Shape) (kind i r : ℕ) : Type 0 where
   pub given : exists n (queueBy kind i) ≡ true
   pub here : r ≡ at n (Tail (queueBy kind i))
 
+pub found-by : (n : Shape) (kind i : ℕ) {r : ℕ} → r ≡ placeBy n kind i → isQueue n kind i ≡ true → Found n kind i r
+found-by n kind i e t = record { known = t; given = given-by n kind i t; here = rw t at e }
+
 pub some-by : (n : Shape) (kind i : ℕ) {r : ℕ} → r ≡ placeBy n kind i → r ≢ 0 → Found n kind i r
 some-by n kind i {r} e h = go (isQueue n kind i) refl
   where
     go : (b : Bool) → isQueue n kind i ≡ b → Found n kind i r
-    go true t = record { known = t; given = given-by n kind i t; here = rw t at e }
+    go true t = found-by n kind i e t
     go false t = absurd (h (rw t at e))
 
 -- ---- ways out

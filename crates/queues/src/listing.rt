@@ -10,7 +10,7 @@ ghost use Rattle.area.specs.Layout.Slot.{Tail};
 ghost use Rattle.queues.specs.Listing.{Lists, queueBy, isQueue};
 
 // Where the tail of the queue of a kind and a number stands, 0 if there is no such queue.
-fn queue_at(shape: Shape, kind: u16, number: u16) -> usize
+pub fn queue_at(shape: Shape, kind: u16, number: u16) -> usize
     ensures { λ r. ⌜ r ≡ cond (isQueue shape kind number) (at shape (Tail (queueBy kind number))) 0 ⌝ }
 {
     if kind == 0 {

@@ -1,7 +1,8 @@
 //! The nine calls on the library against the reference, the whole area and the whole answer
-//! after each call; histories against the ledger too, with due and nearest after each call.
+//! after each call; histories against the ledger too, with due, nearest and the sheet after
+//! each call.
 
-use super::{ledger, timers, Outcome, Tally};
+use super::{ledger, sheet, timers, Outcome, Tally};
 use crate::call::{Answer, Call};
 use crate::damage::{self, BREAKS};
 use crate::guarded::Guarded;
@@ -15,6 +16,7 @@ pub fn run(tally: &mut Tally, random: &mut Random) -> Outcome {
     ledger::histories(tally, random, |tally, lent, call| {
         let answer = compare(tally, lent, call)?;
         timers::reads(tally, lent)?;
+        sheet::reads(tally, lent)?;
         Ok(answer)
     })?;
     scattered_states(tally, random)?;

@@ -6,6 +6,7 @@ pub mod known;
 pub mod ledger;
 pub mod list;
 pub mod rehearse;
+pub mod sheet;
 pub mod sound;
 pub mod start;
 pub mod table;

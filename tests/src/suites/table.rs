@@ -27,7 +27,7 @@ fn example() -> Call {
     start([3, 1, 1, 0], &[2, 5, 2])
 }
 
-fn lines() -> Vec<(Call, Answer)> {
+pub fn lines() -> Vec<(Call, Answer)> {
     let wait = Call::Wait {
         lock: 1,
         condition: 1,
