@@ -18,6 +18,9 @@ SCRIPT ?= examples/script.txt
 PREFIX ?= /usr/local
 VERSION = 0.1.0
 
+# four checks at a time, also on two cores: both are busy then to the end of a level of crates
+export RT_JOBS ?= 4
+
 .PHONY: lib rehearse run test bench bench-rehearse plot fuzz cortex-m install
 
 lib:

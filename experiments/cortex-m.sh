@@ -61,7 +61,7 @@ fi
 
 # the board's memory begins at 0 with the stack's top and the place to start
 printf '.section .vectors, "a"\n.word 0x400000, _start\n' > "$work/vectors.s"
-for example in nine probe; do
+for example in nine probe sheet; do
     arm-none-eabi-gcc -std=c11 -Wall -Wextra -O2 -mcpu=cortex-m3 -mthumb --specs=rdimon.specs \
         -Wl,--section-start=.vectors=0,--no-warn-execstack "$work/vectors.s" "examples/$example.c" "$work/kernel.o" -o "$work/$example"
     qemu-system-arm -M mps2-an385 -display none -semihosting-config enable=on,target=native -kernel "$work/$example" > "$work/$example.txt"

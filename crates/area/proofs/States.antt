@@ -39,16 +39,16 @@ after-small b h (x ∷ xs) p k m = go (eqb x p) xs (λ y e. m y (member-there y 
     go true (y ∷ ys) l ih = l y (member-here y ys)
     go false ys l ih = ih
 
-first-small : (b : ℕ) (xs : List ℕ) → ((x : ℕ) → member x xs ≡ true → x ≤ b) → first xs ≤ b
+pub first-small : (b : ℕ) (xs : List ℕ) → ((x : ℕ) → member x xs ≡ true → x ≤ b) → first xs ≤ b
 first-small b [] m = omega arith
 first-small b (x ∷ xs) m = m x (member-here x xs)
 
-last-small : (b : ℕ) (xs : List ℕ) → ((x : ℕ) → member x xs ≡ true → x ≤ b) → last xs ≤ b
+pub last-small : (b : ℕ) (xs : List ℕ) → ((x : ℕ) → member x xs ≡ true → x ≤ b) → last xs ≤ b
 last-small b [] m = omega arith
 last-small b (x ∷ xs) m = m (lastOf x xs) (last-member x xs)
 
 module _ (n : Shape) (s : State model) (P : Placed n s) where
-  members-small : (q : Queue) (x : ℕ) → member x (s .queues q) ≡ true → x ≤ n .processes
+  pub members-small : (q : Queue) (x : ℕ) → member x (s .queues q) ≡ true → x ≤ n .processes
   members-small q x m = inside-bounds (n .processes) x (member-inside n s P x q m) .1
 
   next-small : (rs : List Queue) (p : ℕ) → nextIn (s .queues) rs p ≤ n .processes

@@ -66,6 +66,37 @@ isCondition (park k) = false
 isCondition (lock l) = false
 isCondition (condition c) = true
 
+-- ---- kinds and numbers, as List has them
+
+-- the kind of a queue
+abbrev pub kindOf : Queue → ℕ
+kindOf ready = 0
+kindOf (park k) = 1
+kindOf (lock l) = 2
+kindOf (condition c) = 3
+
+-- its number; ready has none
+abbrev pub numberOf : Queue → ℕ
+numberOf ready = 0
+numberOf (park k) = k
+numberOf (lock l) = l
+numberOf (condition c) = c
+
+-- the queue of a kind and a number
+abbrev pub queueBy : ℕ → ℕ → Queue
+queueBy zero i = ready
+queueBy (suc zero) i = park i
+queueBy (suc (suc zero)) i = lock i
+queueBy (suc (suc (suc k))) i = condition i
+
+-- whether there is such a queue; ready has the number 0
+abbrev pub isQueue : Shape → ℕ → ℕ → Bool
+isQueue n zero i = eqb i 0
+isQueue n (suc zero) i = exists n (park i)
+isQueue n (suc (suc zero)) i = exists n (lock i)
+isQueue n (suc (suc (suc zero))) i = exists n (condition i)
+isQueue n (suc (suc (suc (suc k)))) i = false
+
 -- ---- lists, most of them of processes
 
 -- whether p is among them

@@ -13,7 +13,7 @@ use lib.ListN.{length, getD, take, drop}
 use borrow.Author.Tests.{ltb-true, ltb-false}
 use Rattle.model.specs.declared.Shape.{Shape}
 use Rattle.model.specs.declared.Report.{Report}
-use Rattle.model.specs.Queue.{All}
+use Rattle.model.specs.Queue.{queueBy, isQueue, All}
 use Rattle.model.specs.Machine.{State, model}
 use Rattle.model.specs.Timers.{Entry, dueWithin, firstEntry, nearest}
 use Rattle.model.specs.Reports.{Refused, Reports}
@@ -24,7 +24,7 @@ use Rattle.area.specs.Reading.{shapeOf, stateOf, Agree}
 use Rattle.area.specs.Sound.{Sound}
 use Rattle.area.proofs.Whole.{counts-in}
 use Rattle.area.proofs.Agreeing.{shape-same, state-same, sound-same}
-use Rattle.queues.specs.Listing.{queueBy, isQueue, Lists}
+use Rattle.queues.specs.Listing.{Lists}
 use Rattle.sheet.specs.Sheet.{page, Sheets}
 use Rattle.sheet.proofs.Rows.{page-length}
 use Rattle.timers.specs.declared.Earliest.{Earliest}

@@ -4,4 +4,5 @@ pub mod Tries
 pub mod Loose
 pub mod Moves
 pub mod Numbers
+pub mod QueueBy
 pub mod Shared

@@ -2,12 +2,12 @@
 use model::Shape;
 use ring::Arrival;
 ghost use mathlib.Core.Path.{_≡_};
-ghost use mathlib.Core.Bool.{true};
+ghost use mathlib.Core.Bool.{true, cond};
 ghost use mathlib.Core.List.{_++_};
 ghost use Prim.Native.Nat.{_<_, _≤_};
 ghost use lib.ListN.{length, drop};
 ghost use Rattle.model.specs.declared.Shape.{Shape};
-ghost use Rattle.model.specs.Queue.{Queue, exists, member, aheadOf, remove, insert, first};
+ghost use Rattle.model.specs.Queue.{Queue, exists, queueBy, isQueue, member, aheadOf, remove, insert, first};
 ghost use Rattle.model.specs.Queue.Queue.{ready};
 ghost use Rattle.model.specs.Field.Field.{priority};
 ghost use Rattle.model.specs.Machine.{State, model};
@@ -19,6 +19,40 @@ ghost use Rattle.area.specs.Holds.{Holds, Held, Becomes, Tried, Moves, with, se
 ghost use Rattle.area.specs.Rings.{Leaves, Joins, Relinked, ranks};
 
 // ---- reads
+
+// Where the tail of the queue of a kind and a number stands, 0 if there is no such queue.
+pub fn queue_at(shape: Shape, kind: u16, number: u16) -> usize
+    ensures { λ r. ⌜ r ≡ cond (isQueue shape kind number) (at shape (Tail (queueBy kind number))) 0 ⌝ }
+{
+    if kind == 0 {
+        if number != 0 {
+            return 0;
+        }
+        return area::ready_at();
+    }
+    if number == 0 {
+        return 0;
+    }
+    if kind == 1 {
+        if number > shape.parks {
+            return 0;
+        }
+        return area::park_at(number);
+    }
+    if kind == 2 {
+        if number > shape.locks {
+            return 0;
+        }
+        return area::lock_at(shape, number);
+    }
+    if kind == 3 {
+        if number > shape.conditions {
+            return 0;
+        }
+        return area::condition_at(shape, number);
+    }
+    0
+}
 
 // The first of the queue whose tail stands at i, 0 if it is empty.
 pub fn first_in(area: &[u16], shape: Shape, i: usize) -> u16

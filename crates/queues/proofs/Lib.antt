@@ -1,3 +1,3 @@
 pub mod Requeues
 pub mod Ranking
-pub mod QueueBy
+pub mod Ways

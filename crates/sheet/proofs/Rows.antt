@@ -1,5 +1,5 @@
 -- Laws of what a row says of the queue of a kind and a number, and of rows one behind the other. Assumes nothing.
-use Prim.Native.Nat.{ℕ, zero, suc, _+_, _*_}
+use Prim.Native.Nat.{ℕ, zero, suc, _+_, _*_, _≤_}
 use native.Mathlib.Omega.{arith}
 use native.Mathlib.Nat.{zero-add}
 use native.Mathlib.Numerals.{add-one}
@@ -10,17 +10,16 @@ use mathlib.Core.List.{List}
 use lib.ListN.{length, length-append}
 use borrow.Author.Tests.{eqb-true}
 use Rattle.model.specs.declared.Shape.{Shape}
-use Rattle.model.specs.Queue.{inside}
+use Rattle.model.specs.Queue.{Queue, inside, kindOf, numberOf, queueBy, isQueue}
 use Rattle.model.specs.Queue.Queue.{ready, park, lock, condition}
 use Rattle.model.specs.Field.Field.{holder, wakeup}
 use Rattle.model.specs.Machine.{State, model}
 use Rattle.model.proofs.Reports.{reports-whole}
-use Rattle.area.specs.Layout.{forEach}
-use Rattle.queues.specs.Listing.{queueBy, isQueue}
-use Rattle.sheet.specs.declared.Row.{Row}
-use Rattle.sheet.specs.Sheet.{kindOf, numberOf, holderOf, wakeupOf, rowOf, printed, row, page, Sheets, Written}
-use Rattle.sheet.proofs.Written.{written-then}
-use Rattle.sheet.proofs.Numbers.{name-length, aligned-length}
+use Rattle.area.specs.Holds.{Holds, Held}
+use Rattle.rows.specs.Printed.{Written}
+use Rattle.rows.proofs.Written.{written-none, written-then, written-long}
+use Rattle.rows.proofs.Numbers.{printed-length}
+use Rattle.sheet.specs.Sheet.{holderOf, wakeupOf, rowOf, row, rows, page, Sheets, Rows}
 
 -- ---- a lock
 
@@ -74,20 +73,27 @@ number-said n (suc (suc (suc (suc k)))) i t = absurd (false≢true t)
 
 -- ---- rows
 
--- a row has 29 bytes
-pub printed-length : (r : Row) → length (printed r) ≡ 29
-unfolding printed
-printed-length r = simp (length-append, name-length, aligned-length)
+-- m rows have 29 bytes each
+rows-length : (s : State model) (queue : ℕ → Queue) (m : ℕ) → length (rows s queue m) ≡ 29 * m
+rows-length s queue zero = refl
+rows-length s queue (suc m) = length-append (rows s queue m) (row s (queue (suc m))) ∙ rw (rows-length s queue m, printed-length (rowOf s (queue (suc m)))) (omega arith)
 
-module _ (f : ℕ → Row) where
-  -- so have as many of them
-  pub rows-length : (m : ℕ) → length (forEach m (λ i. printed (f i))) ≡ 29 * m
-  rows-length zero = refl
-  rows-length (suc m) = length-append (forEach m (λ i. printed (f i))) (printed (f (suc m))) ∙ rw (rows-length m, printed-length (f (suc m))) (omega arith)
+module _ {n : Shape} {area : List ℕ} {queue : ℕ → Queue} {at : ℕ} {old : List ℕ} where
+  -- no row yet
+  pub rows-none : at ≤ length old → Rows n area queue 0 at old old at
+  rows-none h = record { next = omega arith; written = λ s H. written-none at old h }
 
-  -- one row more
-  pub rows-on : (m : ℕ) {at next : ℕ} {old mid new : List ℕ} → next ≡ at + 29 * m → Written at (forEach m (λ i. printed (f i))) old mid → Written next (printed (f (m + 1))) mid new → Written at (forEach (m + 1) (λ i. printed (f i))) old new
-  rows-on m e v w = rw (add-one m) (written-then (rw (rows-length m) e) v (rw (add-one m) at w))
+  module _ {m next : ℕ} {mid : List ℕ} (R : Rows n area queue m at old mid next) where
+    -- one row more
+    pub rows-on : {new : List ℕ} → ((s : State model) → Holds n area s → Written next (row s (queue (m + 1))) mid new) → Rows n area queue (m + 1) at old new (next + 29)
+    rows-on w = record {
+      next = omega (arith, R .next);
+      written = λ s H. rw (add-one m) (written-then (rw (rows-length s queue m) (R .next)) (R .written s H) (rw (add-one m) at (w s H)));
+    }
+
+    -- the page is as long as it was
+    pub rows-long : Held n area → length mid ≡ length old
+    rows-long g = written-long (R .written (g .0) (g .1))
 
 -- ---- the page
 
@@ -95,21 +101,21 @@ module _ (f : ℕ → Row) where
 pub page-length : (n : Shape) (s : State model) → length (page n s) ≡ 29 * (1 + n .parks + n .locks + n .conditions)
 unfolding page
 page-length n s =
-    let p = rows-length (λ k. rowOf s (park k)) (n .parks) in
-    let l = rows-length (λ l. rowOf s (lock l)) (n .locks) in
-    let c = rows-length (λ c. rowOf s (condition c)) (n .conditions) in
-    rw (length-append, printed-length (rowOf s ready), length-append, p, length-append, l, c) (omega arith)
+    let p = rows-length s park (n .parks) in
+    let l = rows-length s lock (n .locks) in
+    let c = rows-length s condition (n .conditions) in
+    simp (length-append, printed-length (rowOf s ready), p, l, c) (omega arith)
 
 -- ready's row, then those of parks, locks and conditions
-pub page-written : (n : Shape) (s : State model) {old one two three new : List ℕ} {parks locks : ℕ} → parks ≡ 29 + 29 * n .parks → locks ≡ parks + 29 * n .locks
-    → Written 0 (row s ready) old one → Written 29 (forEach (n .parks) (λ k. row s (park k))) one two → Written parks (forEach (n .locks) (λ l. row s (lock l))) two three
-    → Written locks (forEach (n .conditions) (λ c. row s (condition c))) three new → Written 0 (page n s) old new
+pub page-written : (n : Shape) (s : State model) {area old one two three new : List ℕ} {parks locks end : ℕ} → Holds n area s
+    → Written 0 (row s ready) old one → Rows n area park (n .parks) 29 one two parks → Rows n area lock (n .locks) parks two three locks → Rows n area condition (n .conditions) locks three new end
+    → Written 0 (page n s) old new
 unfolding page
-page-written n s {parks = parks} p l a b c d =
+page-written n s H a p l c =
     let h = printed-length (rowOf s ready) in
-    let i = rows-length (λ k. rowOf s (park k)) (n .parks) in
-    let j = rows-length (λ l. rowOf s (lock l)) (n .locks) in
-    written-then (omega arith) a (written-then (omega arith) b (written-then (omega arith) c d))
+    let i = rows-length s park (n .parks) in
+    let j = rows-length s lock (n .locks) in
+    written-then (omega arith) a (written-then (omega (arith, p .next)) (p .written s H) (written-then (omega (arith, l .next)) (l .written s H) (c .written s H)))
 
 -- the page, told with its bytes as the count
 pub page-told : (n : Shape) (s : State model) {k : ℕ} {old new : List ℕ} → k ≡ 29 * (1 + n .parks + n .locks + n .conditions) → Written 0 (page n s) old new → Sheets n s old new record { code = 0; count = k }

@@ -1,6 +1,6 @@
 -- `sheet::row_of` meets its contract: the queue's tail is found by its kind and number, and each number is read. Assumes nothing.
-use Rattle.queues.specs.Listing.{queueBy}
-use Rattle.queues.proofs.QueueBy.{Found, found-by}
+use Rattle.model.specs.Queue.{queueBy}
+use Rattle.moves.proofs.QueueBy.{Found, found-by}
 use borrow.Author.Needs.{needs}
 use Rattle.sheet.proofs.Rows.{kind-said, number-said}
 use Rattle.sheet.proofs.row_of.Statement.{statement}

@@ -25,10 +25,10 @@ put-parks-requires : tie.Need-put-parks-requires
 put-parks-requires c κs = ((c .before .before .before .before .before .before .before .before .before .before .before .before .before .before .before .before .pre), omega (arith, (c .before .before .before .before .before .before .before .before .before .before .if1 .left), (c .before .before .before .before .before .before .before .put-label .kept .0), (c .before .before .before .put-rest .kept .0)))
 
 put-locks-requires : tie.Need-put-locks-requires
-put-locks-requires c κs = ((c .before .before .before .before .before .before .before .before .before .before .before .before .before .before .before .before .before .before .before .before .pre), omega (arith, (c .before .before .before .before .before .before .before .before .before .before .before .before .before .before .if1 .left), (c .before .before .before .before .before .before .before .before .before .before .before .put-label .kept .0), (c .before .before .before .before .before .before .before .put-rest .kept .0), (c .before .before .before .put-parks .ensures .0), (c .before .before .before .put-parks .kept .1 .1 .0)))
+put-locks-requires c κs = ((c .before .before .before .before .before .before .before .before .before .before .before .before .before .before .before .before .before .before .before .before .pre), omega (arith, (c .before .before .before .before .before .before .before .before .before .before .before .before .before .before .if1 .left), (c .before .before .before .before .before .before .before .before .before .before .before .put-label .kept .0), (c .before .before .before .before .before .before .before .put-rest .kept .0), (c .before .before .before .put-parks .ensures .next), (c .before .before .before .put-parks .kept .1 .1 .0)))
 
 put-conditions-requires : tie.Need-put-conditions-requires
-put-conditions-requires c κs = ((c .before .before .before .before .before .before .before .before .before .before .before .before .before .before .before .before .before .before .before .before .before .before .before .before .pre), omega (arith, (c .before .before .before .before .before .before .before .before .before .before .before .before .before .before .before .before .before .before .if1 .left), (c .before .before .before .before .before .before .before .before .before .before .before .before .before .before .before .put-label .kept .0), (c .before .before .before .before .before .before .before .before .before .before .before .put-rest .kept .0), (c .before .before .before .before .before .before .before .put-parks .ensures .0), (c .before .before .before .before .before .before .before .put-parks .kept .1 .1 .0), (c .before .before .before .put-locks .ensures .0), (c .before .before .before .put-locks .kept .1 .1 .0)))
+put-conditions-requires c κs = ((c .before .before .before .before .before .before .before .before .before .before .before .before .before .before .before .before .before .before .before .before .before .before .before .before .pre), omega (arith, (c .before .before .before .before .before .before .before .before .before .before .before .before .before .before .before .before .before .before .if1 .left), (c .before .before .before .before .before .before .before .before .before .before .before .before .before .before .before .put-label .kept .0), (c .before .before .before .before .before .before .before .before .before .before .before .put-rest .kept .0), (c .before .before .before .before .before .before .before .put-parks .ensures .next), (c .before .before .before .before .before .before .before .put-parks .kept .1 .1 .0), (c .before .before .before .put-locks .ensures .next), (c .before .before .before .put-locks .kept .1 .1 .0)))
 
 cast-t26 : tie.Need-cast-t26
 cast-t26 c =
@@ -43,7 +43,7 @@ returns-2 : tie.Need-returns-2
 returns-2 c s H =
     let n = (c .before .before .before .before .before .before .before .before .before .before .before .before .before .before .before .before .before .before .before .before .before .before .before .before .before .before .before .args .shape) in
     let ready = rw (c .before .before .before .before .before .before .before .before .before .before .before .before .before .before .before .before .before .before .before .before .row-of .ensures s H) at ((c .before .before .before .before .before .before .before .before .before .before .before .before .before .before .put-rest .ensures) _ (c .before .before .before .before .before .before .before .before .before .before .before .before .before .before .before .before .before .before .put-label .ensures)) in
-    page-told n s refl (page-written n s (c .before .before .before .before .before .before .before .before .before .before .put-parks .ensures .0) (c .before .before .before .before .before .before .put-locks .ensures .0) ready (c .before .before .before .before .before .before .before .before .before .before .put-parks .ensures .1 s H) (c .before .before .before .before .before .before .put-locks .ensures .1 s H) (c .before .before .put-conditions .ensures .1 s H))
+    page-told n s refl (page-written n s H ready (c .before .before .before .before .before .before .before .before .before .before .put-parks .ensures) (c .before .before .before .before .before .before .put-locks .ensures) (c .before .before .put-conditions .ensures))
 
 pub sheet-spec : {M : Type 1} → statement M
 sheet-spec =

@@ -3,12 +3,12 @@ use Prim.Native.Nat.{_≤_}
 use mathlib.Core.Logic.{⊎-elim}
 use native.Mathlib.Omega.{arith}
 use lib.ListN.{length}
-use Rattle.model.specs.Queue.{Queue}
+use Rattle.model.specs.Queue.{Queue, queueBy}
 use Rattle.model.specs.Machine.{State, model}
 use Rattle.model.proofs.Places.{queue-length}
 use Rattle.area.specs.Holds.{Holds}
-use Rattle.queues.specs.Listing.{queueBy}
-use Rattle.queues.proofs.QueueBy.{Found, none-by, some-by, list-missing, list-short, list-whole}
+use Rattle.moves.proofs.QueueBy.{Found, none-by, some-by}
+use Rattle.queues.proofs.Ways.{list-missing, list-short, list-whole}
 use borrow.Author.Needs.{needs}
 use Rattle.queues.proofs.listing.list.Statement.{statement}
 use Rattle.queues.proofs.listing.list.Tie as tie

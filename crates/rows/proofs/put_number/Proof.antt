@@ -1,14 +1,14 @@
--- `sheet::put_number` meets its contract. The loop's invariant: the digits behind i stand on the page, and what is left of the number is to come.
+-- `rows::put_number` meets its contract. The loop's invariant: the digits behind i stand on the page, and what is left of the number is to come.
 -- The measure is the columns before i. Assumes nothing.
 use Prim.Native.Nat.{_-_, _≤_}
 use native.Mathlib.Omega.{arith}
 use mathlib.Core.Path.{_≡_}
 use lib.ListN.{length, length-set}
-use Rattle.sheet.proofs.Written.{written-long}
-use Rattle.sheet.proofs.Numbers.{Partly, partly-start, partly-on, partly-last, partly-end}
+use Rattle.rows.proofs.Written.{written-long}
+use Rattle.rows.proofs.Numbers.{Partly, partly-start, partly-on, partly-last, partly-end}
 use borrow.Author.Needs.{needs}
-use Rattle.sheet.proofs.put_number.Statement.{statement}
-use Rattle.sheet.proofs.put_number.Tie as tie
+use Rattle.rows.proofs.put_number.Statement.{statement}
+use Rattle.rows.proofs.put_number.Tie as tie
 
 abbrev Inv-loop : tie.InvT-loop
 Inv-loop page₀ at columns number rest₀ i₀ page rest i = (at ≤ i) × Partly columns number at i rest page₀ page
@@ -45,7 +45,7 @@ same-length : tie.Need-same-length Inv-loop μ-loop
 same-length c = simp length-set (long (c .before .before))
 
 returns : tie.Need-returns Inv-loop μ-loop
-returns c blank = partly-last (c .before .before .loop .inv .1) (c .before .loop-test .taken) (c .if1 .taken) blank
+returns c blank = partly-last (c .before .before .loop .inv .1) (c .before .loop-test .taken) (omega (arith, c .if1 .taken)) blank
 
 cast-page-2 : tie.Need-cast-page-2 Inv-loop μ-loop
 cast-page-2 c = search needs
@@ -60,7 +60,7 @@ loop-less : tie.Need-loop-less Inv-loop μ-loop
 loop-less c = search needs
 
 loop-again : tie.Need-loop-again Inv-loop μ-loop
-loop-again c = let l = c .before .before in (omega (arith, c .before .loop-test .taken), partly-on (l .loop .inv .1) (c .before .loop-test .taken) (c .if1 .left))
+loop-again c = let l = c .before .before in (omega (arith, c .before .loop-test .taken), partly-on (l .loop .inv .1) (c .before .loop-test .taken) (omega (arith, c .if1 .left)))
 
 same-length-2 : tie.Need-same-length-2 Inv-loop μ-loop
 same-length-2 c = long (c .before)

@@ -1,12 +1,12 @@
--- `sheet::put_rest` meets its contract: behind the name and the number come five numbers more, each behind a space, and the newline.
+-- `rows::put_rest` meets its contract: behind the name and the number come five numbers more, each behind a space, and the newline.
 -- Assumes nothing.
 use native.Mathlib.Omega.{arith}
 use lib.ListN.{length-set}
 use borrow.Author.Needs.{needs}
-use Rattle.sheet.proofs.Written.{written-long}
-use Rattle.sheet.proofs.Numbers.{labelled, begun-on, begun-end}
-use Rattle.sheet.proofs.put_rest.Statement.{statement}
-use Rattle.sheet.proofs.put_rest.Tie as tie
+use Rattle.rows.proofs.Written.{written-long}
+use Rattle.rows.proofs.Numbers.{labelled, begun-on, begun-end}
+use Rattle.rows.proofs.put_rest.Statement.{statement}
+use Rattle.rows.proofs.put_rest.Tie as tie
 
 put-number-requires-2 : tie.Need-put-number-requires-2
 put-number-requires-2 c κs = omega (arith, (c .before .before .before .before .before .before .pre), (c .before .before .before .put-number .kept .0))

@@ -1,14 +1,14 @@
--- `sheet::put_label` meets its contract: spaces, the name over the first two, and the number behind one more. Assumes nothing.
+-- `rows::put_label` meets its contract: spaces, the name over the first two, and the number behind one more. Assumes nothing.
 use native.Mathlib.Omega.{arith}
 use Prim.Native.Nat.{ℕ, _+_}
 use mathlib.Core.List.{List}
 use lib.ListN.{set, length-set}
 use borrow.Author.Needs.{needs}
-use Rattle.sheet.specs.Sheet.{name}
-use Rattle.sheet.proofs.Written.{written-long}
-use Rattle.sheet.proofs.Numbers.{Begun, begun-name, begun-on}
-use Rattle.sheet.proofs.put_label.Statement.{statement}
-use Rattle.sheet.proofs.put_label.Tie as tie
+use Rattle.rows.specs.Printed.{name}
+use Rattle.rows.proofs.Written.{written-long}
+use Rattle.rows.proofs.Numbers.{Begun, begun-name, begun-on}
+use Rattle.rows.proofs.put_label.Statement.{statement}
+use Rattle.rows.proofs.put_label.Tie as tie
 
 blank-requires : tie.Need-blank-requires
 blank-requires c κs = search needs

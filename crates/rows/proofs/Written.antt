@@ -7,7 +7,7 @@ use mathlib.Core.Path.{_≡_, refl, sym, ap, subst, _∙_}
 use mathlib.Core.List.{List, [], _∷_, _++_, append-assoc}
 use lib.ListN.{length, take, drop, set, getD, length-append, length-drop, take-append-drop}
 use lib.Seq.{length-take-le, take-at, drop-at, take-suc, drop-drop, set-at, set-split, append-snoc}
-use Rattle.sheet.specs.Sheet.{Written}
+use Rattle.rows.specs.Printed.{Written}
 
 -- ---- any bytes
 

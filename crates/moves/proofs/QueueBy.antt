@@ -1,21 +1,16 @@
--- The queue of a kind and a number: its place, whether there is one, and List's ways out. Assumes nothing.
-use Prim.Native.Nat.{ℕ, zero, suc, _≤_, _<_}
+-- The queue of a kind and a number: its place, and whether there is one. Assumes nothing.
+use Prim.Native.Nat.{ℕ, zero, suc, _<_}
 use native.Mathlib.Omega.{arith}
 use mathlib.Core.Path.{_≡_, refl, sym, _∙_}
 use mathlib.Core.Logic.{_≢_}
-use mathlib.Core.Bool.{Bool, true, false, cond, true≢false, false≢true}
-use mathlib.Core.List.{List, _++_}
-use lib.ListN.{length, drop}
+use mathlib.Core.Bool.{Bool, true, false, cond, false≢true}
 use Rattle.model.specs.declared.Shape.{Shape}
-use Rattle.model.specs.Queue.{Queue, inside, exists}
+use Rattle.model.specs.Queue.{Queue, inside, exists, queueBy, isQueue}
 use Rattle.model.specs.Queue.Queue.{ready, park, lock, condition}
 use Rattle.model.specs.Rules.{readyOrPark}
-use Rattle.model.specs.Machine.{State, model}
 use Rattle.model.proofs.Tests.{eqb-yes, eqb-no, inside-bounds, denied}
-use Rattle.model.proofs.Reports.{reports-short, reports-whole}
 use Rattle.area.specs.Layout.{at}
 use Rattle.area.specs.Layout.Slot.{Tail}
-use Rattle.queues.specs.Listing.{queueBy, isQueue, Lists}
 
 -- ---- the place of its tail
 
@@ -88,15 +83,3 @@ some-by n kind i {r} e h = go (isQueue n kind i) refl
     go : (b : Bool) → isQueue n kind i ≡ b → Found n kind i r
     go true t = found-by n kind i e t
     go false t = absurd (h (rw t at e))
-
--- ---- ways out
-
-module _ {kind i : ℕ} {n : Shape} {s : State model} {old : List ℕ} where
-  pub list-missing : isQueue n kind i ≡ false → Lists kind i n s old old record { code = 7; count = 0 }
-  list-missing f = record { missing = λ g. record { code = refl; count = refl; buffer = refl }; found = λ t. absurd (true≢false (sym t ∙ f)) }
-
-  pub list-short : {k : ℕ} → isQueue n kind i ≡ true → k ≡ length (s .queues (queueBy kind i)) → length old < k → Lists kind i n s old old record { code = 5; count = 0 }
-  list-short t e l = record { missing = λ f. absurd (true≢false (sym t ∙ f)); found = λ g. reports-short (omega arith) }
-
-  pub list-whole : {k : ℕ} {new : List ℕ} → isQueue n kind i ≡ true → k ≡ length (s .queues (queueBy kind i)) → length (s .queues (queueBy kind i)) ≤ length old → new ≡ s .queues (queueBy kind i) ++ drop (length (s .queues (queueBy kind i))) old → Lists kind i n s old new record { code = 0; count = k }
-  list-whole t e l d = record { missing = λ f. absurd (true≢false (sym t ∙ f)); found = λ g. reports-whole e l d }

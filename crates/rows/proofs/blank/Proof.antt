@@ -1,13 +1,13 @@
--- `sheet::blank` meets its contract. The loop's invariant: so many spaces stand on the page. The measure is the columns ahead. Assumes nothing.
+-- `rows::blank` meets its contract. The loop's invariant: so many spaces stand on the page. The measure is the columns ahead. Assumes nothing.
 use Prim.Native.Nat.{_-_, _≤_}
 use mathlib.Core.Path.{_≡_}
 use native.Mathlib.Omega.{arith}
-use Rattle.sheet.specs.Sheet.{spaces, Written}
-use Rattle.sheet.proofs.Written.{written-none, written-long}
-use Rattle.sheet.proofs.Numbers.{spaces-on}
+use Rattle.rows.specs.Printed.{spaces, Written}
+use Rattle.rows.proofs.Written.{written-none, written-long}
+use Rattle.rows.proofs.Numbers.{spaces-on}
 use borrow.Author.Needs.{needs}
-use Rattle.sheet.proofs.blank.Statement.{statement}
-use Rattle.sheet.proofs.blank.Tie as tie
+use Rattle.rows.proofs.blank.Statement.{statement}
+use Rattle.rows.proofs.blank.Tie as tie
 
 abbrev Inv-loop : tie.InvT-loop
 Inv-loop page₀ at column₀ page column = (column ≤ 28) × Written at (spaces column) page₀ page

@@ -1,11 +1,11 @@
--- `queues::listing::queue_at` meets its contract: a kind by a kind, and the number against the count of that kind. Assumes nothing.
+-- `moves::queue_at` meets its contract: a kind by a kind, and the number against the count of that kind. Assumes nothing.
 use Rattle.model.proofs.Tests.{eqb-yes, eqb-no}
 use Rattle.moves.proofs.Numbers.{is-inside}
-use Rattle.queues.proofs.QueueBy.{beyond, placed, unplaced, number-0, no-kind, park-place}
+use Rattle.moves.proofs.QueueBy.{beyond, placed, unplaced, number-0, no-kind, park-place}
 use mathlib.Core.Path.{refl}
 use borrow.Author.Needs.{needs}
-use Rattle.queues.proofs.listing.queue_at.Statement.{statement}
-use Rattle.queues.proofs.listing.queue_at.Tie as tie
+use Rattle.moves.proofs.queue_at.Statement.{statement}
+use Rattle.moves.proofs.queue_at.Tie as tie
 
 returns : tie.Need-returns
 returns c =

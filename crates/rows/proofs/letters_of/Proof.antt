@@ -1,8 +1,8 @@
--- `sheet::letters_of` meets its contract: a kind by a kind. Assumes nothing.
+-- `rows::letters_of` meets its contract: a kind by a kind. Assumes nothing.
 use mathlib.Core.Path.{sym}
-use Rattle.sheet.proofs.Numbers.{name-last}
-use Rattle.sheet.proofs.letters_of.Statement.{statement}
-use Rattle.sheet.proofs.letters_of.Tie as tie
+use Rattle.rows.proofs.Numbers.{name-last}
+use Rattle.rows.proofs.letters_of.Statement.{statement}
+use Rattle.rows.proofs.letters_of.Tie as tie
 
 returns : tie.Need-returns
 returns c = rw (c .if1 .taken)

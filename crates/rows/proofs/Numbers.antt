@@ -13,9 +13,9 @@ use lib.ListN.{length, take, drop, set, length-append, length-set, length-replic
 use lib.Seq.{take-take}
 use borrow.Author.Tests.{lt-ltb, le-ltb}
 use Rattle.model.specs.Text.{bytesOf}
-use Rattle.sheet.specs.declared.Row.{Row}
-use Rattle.sheet.specs.Sheet.{spaces, aligned, name, label, printed, Written}
-use Rattle.sheet.proofs.Written.{written-none, written-one, written-same, written-long, written-before, written-then, written-over, written-there}
+use Rattle.rows.specs.declared.Row.{Row}
+use Rattle.rows.specs.Printed.{spaces, aligned, name, label, printed, Written}
+use Rattle.rows.proofs.Written.{written-none, written-one, written-same, written-long, written-before, written-then, written-over, written-there}
 
 -- ---- lengths
 
@@ -49,6 +49,11 @@ name-last zero a b c = absurd (a refl)
 name-last (suc zero) a b c = absurd (b refl)
 name-last (suc (suc zero)) a b c = absurd (c refl)
 name-last (suc (suc (suc k))) a b c = refl
+
+-- a row has 29 bytes
+pub printed-length : (r : Row) → length (printed r) ≡ 29
+unfolding printed
+printed-length r = simp (length-append, name-length, aligned-length)
 
 -- one space more
 pub spaces-on : (at j : ℕ) {old new : List ℕ} → at + j < length new → Written at (spaces j) old new → Written at (spaces (j + 1)) old (set new (at + j) 32)
