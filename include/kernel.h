@@ -112,8 +112,12 @@ uint64_t kernel_exit(uint16_t *area, size_t len, uint16_t lock);
 
 /* The running process leaves the lock and waits on the condition (mark 1) until it is notified or, if ticks is not 0, that many ticks
  * have gone by; it must enter the lock again then. If it waits, KERNEL_AHEAD says how many wait there before it: kernel_notify wakes these
- * first. If a wakeup was stored by kernel_naked, it takes that and goes on (mark 0). A wait that would fall due at clock 0 falls due one
- * tick later. Codes: 1, 6, 7, 9. */
+ * first. If a wakeup was stored by kernel_naked, it takes that and goes on (mark 0).
+ *
+ * A wait of t ticks lasts t ticks: unless another call wakes its process, the t-th tick does, and no earlier one, at whatever clock. Here
+ * the kernel leaves chapter 10 of the Mesa manual. There timer 0 stands for no timer, so that a wait which falls due at clock 0 is put off
+ * by a tick, and a grid of readings shifts once a round of the clock. Here a bit beside the timer, armed, says whether it is set, and 0 is a
+ * time as any other. Codes: 1, 6, 7, 9. */
 uint64_t kernel_wait(uint16_t *area, size_t len, uint16_t lock, uint16_t condition, uint16_t ticks);
 
 /* The first process that waits on the condition wakes, if there is one. Codes: 1, 6, 7. */
@@ -147,8 +151,8 @@ uint64_t kernel_list(const uint16_t *area, size_t len, uint16_t kind, uint16_t n
 
 /* Writes who is due within this many ticks to the front of buffer; the rest of it stays. Two words for each process: its number, then
  * its ticks left. Fewer ticks left come first, and of equals the lower number. Two words for every process of the area always suffice:
- * uint16_t buffer[2 * PROCESSES]. Who has 65,536 left, a full round of the clock (a wait of 65,535 ticks at clock 1), is never told.
- * Codes: 1, 5 (fewer than two words for each process told). */
+ * uint16_t buffer[2 * PROCESSES]. Who has 65,536 left, a full round of the clock, is never told; no wait is so long, so this is seen only
+ * in an area whose words were written otherwise. Codes: 1, 5 (fewer than two words for each process told). */
 uint64_t kernel_due(const uint16_t *area, size_t len, uint16_t ticks, uint16_t *buffer, size_t buffer_len);
 
 /* The process with the fewest ticks left, the lowest number of equals, and these ticks; a full round is seen too. So long a probe may

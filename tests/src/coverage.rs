@@ -1,7 +1,7 @@
 //! Counts what the histories met, so that a suite that met too little fails.
 
 use crate::call::{Answer, Call};
-use crate::reference::{Queue, State};
+use crate::reference::{Queue, Record, State};
 use std::collections::BTreeMap;
 
 #[derive(Default)]
@@ -44,7 +44,14 @@ const JOINS: [&str; 5] = [
     "before all who queue",
 ];
 
-/// How often each way to join is demanded.
+/// What happens where the clock goes round.
+const AT_ZERO: [&str; 3] = [
+    "wait due at clock 0",
+    "tick to clock 0 wakes",
+    "tick to clock 0 passes over who waits unarmed",
+];
+
+/// How often each way to join and each of what happens at clock 0 is demanded.
 const OFTEN: u64 = 100;
 
 /// The events of histories whose clock goes round.
@@ -125,6 +132,14 @@ impl Coverage {
     fn note_tick(&mut self, before: &State, answer: &Answer, after: &State) {
         self.meet_if(answer.moved > 1, "tick moves several");
         self.meet_if(after.clock < before.clock, "clock goes round");
+        if after.clock == 0 {
+            self.meet_if(answer.moved > 0, "tick to clock 0 wakes");
+            let unarmed = |record: &Record| record.waiting && !record.armed;
+            self.meet_if(
+                after.records.iter().any(unarmed),
+                "tick to clock 0 passes over who waits unarmed",
+            );
+        }
         let round = self.met.contains_key("clock goes round");
         self.meet_if(answer.moved > 0 && round, "tick wakes in a later round");
     }
@@ -141,15 +156,14 @@ impl Coverage {
             && after.record(answer.running).priority > priority;
         self.meet_if(passed, "wait whose lock lets one go before the caller");
         if let Queue::Condition(_) = after.lies(caller) {
-            let timer = after.record(caller).timer;
-            self.meet_if(
-                timer != 0 && timer < after.clock,
-                "timer set for the next round",
-            );
+            let Record { armed, timer, .. } = *after.record(caller);
+            self.meet_if(armed && timer == 0, "wait due at clock 0");
+            self.meet_if(armed && timer < after.clock, "timer set for the next round");
         }
     }
 
-    /// Each call with each of its codes and each event at least once, each way to join often.
+    /// Each call with each of its codes and each event at least once, each way to join and what
+    /// happens at clock 0 often.
     pub fn demand_all(&self) -> Result<(), String> {
         for (name, codes) in CODES {
             for code in codes {
@@ -160,6 +174,9 @@ impl Coverage {
             for how in JOINS {
                 self.demand_often(&format!("{name} {how}"))?;
             }
+        }
+        for event in AT_ZERO {
+            self.demand_often(event)?;
         }
         EVENTS.iter().try_for_each(|event| self.demand(event))
     }

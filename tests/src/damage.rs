@@ -8,7 +8,7 @@ use crate::sample;
 type Break = fn(&mut Random, &mut State) -> Option<()>;
 
 /// Each breaks one clause of a sound state, or finds nothing to break in it.
-pub const BREAKS: [(&str, Break); 15] = [
+pub const BREAKS: [(&str, Break); 22] = [
     ("holder in its own ring", holder_in_its_own_ring),
     ("wakeup over a ring", wakeup_over_a_ring),
     ("locked without holder", locked_without_holder),
@@ -18,6 +18,13 @@ pub const BREAKS: [(&str, Break); 15] = [
     ("waiting outside conditions", waiting_outside),
     ("not waiting in a condition", not_waiting_inside),
     ("timer set outside", timer_outside),
+    ("armed in ready", armed_in_ready),
+    ("armed in a park", armed_in_a_park),
+    ("armed in a lock", armed_in_a_lock),
+    ("armed with a timer outside", armed_with_a_timer_outside),
+    ("armed without waiting inside", armed_without_waiting_inside),
+    ("armed cleared before a timer", armed_cleared_before_a_timer),
+    ("timer set where unarmed", timer_set_where_unarmed),
     ("failed clear in a lock", failed_clear_in_a_lock),
     ("failed set in a condition", failed_set_in_a_condition),
     ("priority rises", priority_rises),
@@ -49,6 +56,14 @@ fn member(random: &mut Random, state: &State, wanted: fn(Queue) -> bool) -> Opti
 
 fn any(_: Queue) -> bool {
     true
+}
+
+fn is_ready(queue: Queue) -> bool {
+    queue == Queue::Ready
+}
+
+fn is_park(queue: Queue) -> bool {
+    matches!(queue, Queue::Park(_))
 }
 
 fn is_lock(queue: Queue) -> bool {
@@ -124,13 +139,64 @@ fn waiting_outside(random: &mut Random, state: &mut State) -> Option<()> {
 
 fn not_waiting_inside(random: &mut Random, state: &mut State) -> Option<()> {
     let process = member(random, state, is_condition)?;
-    state.record_mut(process).waiting = false;
-    state.record_mut(process).timer = 0;
+    let record = state.record_mut(process);
+    record.waiting = false;
+    record.armed = false;
+    record.timer = 0;
     Some(())
 }
 
 fn timer_outside(random: &mut Random, state: &mut State) -> Option<()> {
     let process = member(random, state, is_no_condition)?;
+    state.record_mut(process).timer = random.word() | 1;
+    Some(())
+}
+
+fn armed_in_ready(random: &mut Random, state: &mut State) -> Option<()> {
+    let process = member(random, state, is_ready)?;
+    state.record_mut(process).armed = true;
+    Some(())
+}
+
+fn armed_in_a_park(random: &mut Random, state: &mut State) -> Option<()> {
+    let process = member(random, state, is_park)?;
+    state.record_mut(process).armed = true;
+    Some(())
+}
+
+fn armed_in_a_lock(random: &mut Random, state: &mut State) -> Option<()> {
+    let process = member(random, state, is_lock)?;
+    state.record_mut(process).armed = true;
+    Some(())
+}
+
+fn armed_with_a_timer_outside(random: &mut Random, state: &mut State) -> Option<()> {
+    let process = member(random, state, is_no_condition)?;
+    state.record_mut(process).arm(random.word() | 1);
+    Some(())
+}
+
+fn armed_without_waiting_inside(random: &mut Random, state: &mut State) -> Option<()> {
+    let process = member(random, state, is_condition)?;
+    state.record_mut(process).armed = true;
+    state.record_mut(process).waiting = false;
+    Some(())
+}
+
+fn armed_cleared_before_a_timer(random: &mut Random, state: &mut State) -> Option<()> {
+    let process = member(random, state, is_condition)?;
+    if state.record(process).timer == 0 {
+        return None;
+    }
+    state.record_mut(process).armed = false;
+    Some(())
+}
+
+fn timer_set_where_unarmed(random: &mut Random, state: &mut State) -> Option<()> {
+    let process = member(random, state, is_condition)?;
+    if state.record(process).armed {
+        return None;
+    }
     state.record_mut(process).timer = random.word() | 1;
     Some(())
 }
@@ -246,6 +312,25 @@ fn ring_beyond_the_count(random: &mut Random) -> Vec<u16> {
     follow_first(&mut state);
     let mut words = state.words();
     words[0] = count;
+    words
+}
+
+/// The words of a damaged state of this shape: one clause broken, by turns, where it can be; blind
+/// damage too in so many of a hundred cases; now and then cut off, or with a wrong count.
+pub fn area(random: &mut Random, shape: Shape, turn: usize, blindly: usize) -> Vec<u16> {
+    let mut state = sample::state(random, shape);
+    let (_, change) = BREAKS[turn % BREAKS.len()];
+    let _ = change(random, &mut state);
+    let mut words = state.words();
+    if random.chance(blindly) {
+        blind(random, &shape, &mut words);
+    }
+    if random.chance(5) {
+        words.truncate(random.below(words.len()));
+    }
+    if random.chance(2) {
+        words = wrong_count(random);
+    }
     words
 }
 

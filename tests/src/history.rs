@@ -69,6 +69,11 @@ fn ticks(random: &mut Random) -> u16 {
     }
 }
 
+/// How many ticks bring the clock to 0.
+fn until_zero(clock: u16) -> u16 {
+    clock.wrapping_neg()
+}
+
 /// A call with any numbers.
 pub fn any_call(random: &mut Random, shape: &Shape, wrong: usize) -> Call {
     let lock = number(random, shape.locks, wrong);
@@ -191,7 +196,10 @@ impl History {
             Some(lock) if shape.conditions > 0 => Call::Wait {
                 lock,
                 condition: number(random, shape.conditions, self.wrong),
-                ticks: ticks(random),
+                ticks: match random.below(8) {
+                    0 => until_zero(state.clock),
+                    _ => ticks(random),
+                },
             },
             Some(lock) => Call::Exit(lock),
             None if state.running == 0 => Call::Tick,

@@ -22,6 +22,7 @@ pub struct Ledger {
     // Fields by number; the element at 0 stands for none and is never used.
     pub priority: Vec<u16>,
     pub timer: Vec<u16>,
+    pub armed: Vec<bool>,
     pub failed: Vec<bool>,
     pub holder: Vec<u16>,
     pub wakeup: Vec<bool>,
@@ -63,6 +64,7 @@ impl Ledger {
             running: 0,
             priority,
             timer: vec![0; processes as usize + 1],
+            armed: vec![false; processes as usize + 1],
             failed: vec![false; processes as usize + 1],
             holder: vec![0; locks as usize + 1],
             wakeup: vec![false; conditions as usize + 1],
@@ -114,10 +116,10 @@ impl Ledger {
         matches!(self.lies(process), Place::Condition(_))
     }
 
-    /// Who waits with a timer, each with its ticks left, the earliest first, equals by number.
+    /// Who waits armed, each with its ticks left, the earliest first, equals by number.
     pub fn timed(&self) -> Vec<(u16, u32)> {
         let mut timed: Vec<(u16, u32)> = (1..=self.processes)
-            .filter(|&process| self.timer[process as usize] != 0 && self.waiting(process))
+            .filter(|&process| self.armed[process as usize] && self.waiting(process))
             .map(|process| {
                 let behind = self.timer[process as usize].wrapping_sub(self.clock);
                 (process, if behind == 0 { 65_536 } else { behind as u32 })
@@ -135,6 +137,7 @@ impl Ledger {
     }
 
     fn wake(&mut self, process: u16) -> u16 {
+        self.armed[process as usize] = false;
         self.timer[process as usize] = 0;
         self.note(process, Place::Ready)
     }
@@ -238,6 +241,7 @@ impl Ledger {
                 if std::mem::take(&mut self.wakeup[condition as usize]) {
                     return (0, moved);
                 }
+                self.armed[caller as usize] = ticks > 0;
                 self.timer[caller as usize] = self.due(ticks);
                 self.note(caller, Place::Condition(condition));
                 (1, moved)
@@ -292,8 +296,8 @@ impl Ledger {
     fn wake_due(&mut self) -> u16 {
         let mut moved = 0;
         for process in 1..=self.processes {
-            let timer = self.timer[process as usize];
-            if timer != 0 && timer == self.clock {
+            let at = process as usize;
+            if self.armed[at] && self.timer[at] == self.clock {
                 moved += self.wake(process);
             }
         }
@@ -304,8 +308,6 @@ impl Ledger {
         let sum = (self.clock as u32 + ticks as u32) & 0xFFFF;
         if ticks == 0 {
             0
-        } else if sum == 0 {
-            1
         } else {
             sum as u16
         }

@@ -41,6 +41,7 @@ fn suites() -> Vec<Suite> {
         ("calls", suites::calls::run),
         ("list", suites::list::run),
         ("due and nearest", suites::timers::run),
+        ("sleeps", suites::sleeps::run),
         ("sheet", suites::sheet::run),
         ("rehearse", suites::rehearse::run),
     ]

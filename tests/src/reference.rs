@@ -38,7 +38,16 @@ pub struct Record {
     pub priority: u16,
     pub failed: bool,
     pub waiting: bool,
+    pub armed: bool,
     pub timer: u16,
+}
+
+impl Record {
+    /// Sets armed, and the timer beside it.
+    pub fn arm(&mut self, timer: u16) {
+        self.armed = true;
+        self.timer = timer;
+    }
 }
 
 /// What the words of an area say, with every ring as a list from its first to its tail.
@@ -111,6 +120,7 @@ const PROCESS: (u32, u32) = (3, 12);
 const LAST: (u32, u32) = (15, 15);
 const PRIORITY: (u32, u32) = (0, 2);
 const FAILED: (u32, u32) = (13, 13);
+const ARMED: (u32, u32) = (13, 13);
 const WAITING: (u32, u32) = (14, 14);
 const WHOLE: (u32, u32) = (0, 15);
 
@@ -226,13 +236,14 @@ fn decode(area: &[u16]) -> Option<State> {
     let mut next = Vec::new();
     for _ in 0..shape.processes {
         let link = reader.word(&[PRIORITY, PROCESS, FAILED])?;
-        let flags = reader.word(&[WAITING])?;
+        let flags = reader.word(&[ARMED, WAITING])?;
         let timer = reader.word(&[WHOLE])?;
         next.push(reader.process(link)?);
         records.push(Record {
             priority: bits(link, PRIORITY),
             failed: bits(link, FAILED) == 1,
             waiting: bits(flags, WAITING) == 1,
+            armed: bits(flags, ARMED) == 1,
             timer,
         });
     }
@@ -353,7 +364,8 @@ impl State {
             && self.no_ring_rises()
             && self.running_is_first_and_not_failed()
             && self.waiting_exactly_in_conditions()
-            && self.timers_only_where_waiting()
+            && self.armed_only_where_waiting()
+            && self.timers_only_where_armed()
             && self.failed_as_the_rings_say()
             && self.locked_exactly_when_held()
             && self.no_holder_in_its_own_ring()
@@ -394,10 +406,16 @@ impl State {
         })
     }
 
-    fn timers_only_where_waiting(&self) -> bool {
+    fn armed_only_where_waiting(&self) -> bool {
         self.records
             .iter()
-            .all(|record| record.waiting || record.timer == 0)
+            .all(|record| record.waiting || !record.armed)
+    }
+
+    fn timers_only_where_armed(&self) -> bool {
+        self.records
+            .iter()
+            .all(|record| record.armed || record.timer == 0)
     }
 
     fn failed_as_the_rings_say(&self) -> bool {
@@ -451,7 +469,9 @@ impl State {
                     | put(next, PROCESS)
                     | put(u16::from(record.failed), FAILED),
             );
-            words.push(put(u16::from(record.waiting), WAITING));
+            words.push(
+                put(u16::from(record.armed), ARMED) | put(u16::from(record.waiting), WAITING),
+            );
             words.push(record.timer);
         }
         words
@@ -605,6 +625,7 @@ impl Step {
     fn wake(&mut self, process: u16) {
         let record = self.state.record_mut(process);
         record.waiting = false;
+        record.armed = false;
         record.timer = 0;
         self.move_to(process, Queue::Ready);
     }
@@ -671,8 +692,9 @@ impl Step {
         let caller = self.state.running;
         let timer = timer(self.state.clock, ticks);
         let record = self.state.record_mut(caller);
-        record.timer = timer;
         record.waiting = true;
+        record.armed = ticks != 0;
+        record.timer = timer;
         self.ahead = self.move_to(caller, Queue::Condition(condition));
         self.mark = 1;
         Ok(())
@@ -740,8 +762,8 @@ impl Step {
     fn tick(&mut self) -> Done {
         self.state.clock = self.state.clock.wrapping_add(1);
         for process in 1..=self.state.shape.processes {
-            let timer = self.state.record(process).timer;
-            if timer != 0 && timer == self.state.clock {
+            let record = self.state.record(process);
+            if record.armed && record.timer == self.state.clock {
                 self.wake(process);
             }
         }
@@ -753,10 +775,7 @@ fn timer(clock: u16, ticks: u16) -> u16 {
     if ticks == 0 {
         return 0;
     }
-    match (u32::from(clock) + u32::from(ticks)) % 65_536 {
-        0 => 1,
-        sum => sum as u16,
-    }
+    ((u32::from(clock) + u32::from(ticks)) % 65_536) as u16
 }
 
 /// The queue that a kind and a number name.
@@ -789,7 +808,7 @@ pub fn list(area: &[u16], kind: u16, number: u16, buffer: &mut [u16]) -> (u16, u
 
 // Reads of the timers.
 
-/// A process that waits with a timer, and its ticks left.
+/// A process that waits armed, and its ticks left.
 #[derive(Clone, Copy, PartialEq, Eq, Debug, Default)]
 pub struct Timed {
     pub process: u16,
@@ -806,12 +825,12 @@ fn left(clock: u16, timer: u16) -> u32 {
 }
 
 impl State {
-    /// All who wait with a timer, by their ticks left and then by number.
+    /// All who wait armed, by their ticks left and then by number.
     pub fn timed(&self) -> Vec<Timed> {
         let mut all = Vec::new();
         for process in 1..=self.shape.processes {
             let record = self.record(process);
-            if record.waiting && record.timer != 0 {
+            if record.armed {
                 let left = left(self.clock, record.timer);
                 all.push(Timed { process, left });
             }

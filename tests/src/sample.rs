@@ -23,12 +23,20 @@ pub fn wide_shape(random: &mut Random) -> Shape {
     }
 }
 
+/// Any clock, often one that is about to go round or just has.
+fn clock(random: &mut Random) -> u16 {
+    match random.below(4) {
+        0 => random.pick(&[65_534, 65_535, 0, 1]),
+        _ => random.word(),
+    }
+}
+
 /// A sound state in which the processes lie anywhere.
 pub fn state(random: &mut Random, shape: Shape) -> State {
     let highest = random.between(0, 7);
     let mut state = State {
         shape,
-        clock: random.word(),
+        clock: clock(random),
         running: 0,
         ready: Vec::new(),
         parks: vec![Vec::new(); usize::from(shape.parks)],
@@ -65,15 +73,23 @@ fn scatter(random: &mut Random, state: &mut State) {
     }
 }
 
+/// 0, the clock, the next tick, one near it, or any.
+fn timer(random: &mut Random, clock: u16) -> u16 {
+    let near = clock.wrapping_add(random.between(0, 3));
+    match random.below(8) {
+        0 => 0,
+        1 => clock,
+        2 => clock.wrapping_add(1),
+        3 | 4 => random.word(),
+        _ => near,
+    }
+}
+
 fn set_flags(random: &mut Random, state: &mut State) {
     for queue in state.shape.queues() {
         for process in state.queue(queue).to_vec() {
-            let near = state.clock.wrapping_add(random.between(0, 3));
-            let timer = match random.below(4) {
-                0 => 0,
-                1 => random.word(),
-                _ => near,
-            };
+            let timer = timer(random, state.clock);
+            let armed = random.chance(75);
             let failed = random.chance(30);
             let record = state.record_mut(process);
             record.failed = match queue {
@@ -83,7 +99,9 @@ fn set_flags(random: &mut Random, state: &mut State) {
             };
             if matches!(queue, Queue::Condition(_)) {
                 record.waiting = true;
-                record.timer = timer;
+                if armed {
+                    record.arm(timer);
+                }
             }
         }
     }

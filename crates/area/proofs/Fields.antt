@@ -13,7 +13,7 @@ use lib.ListN.{length, getD, set}
 use Rattle.model.specs.declared.Shape.{Shape}
 use Rattle.model.specs.Queue.{inside, bit}
 use Rattle.model.specs.Field.{Field, some}
-use Rattle.model.specs.Field.Field.{clock, running, priority, timer, failed, holder, wakeup}
+use Rattle.model.specs.Field.Field.{clock, running, priority, armed, timer, failed, holder, wakeup}
 use Rattle.model.specs.Rules.{counted, readyOrPark}
 use Rattle.model.specs.Machine.{State, model}
 use Rattle.model.specs.Valid.{room}
@@ -69,18 +69,19 @@ module _ (w u k x : ℕ) (hk : 0 < k) (power : (i : ℕ) × (u ≡ 2 ^ i)) where
 
 -- ---- writes
 
--- the locked bit of a lock with no holder, and with one
-pub unlocked : {p : ℕ} → p ≡ 0 → (_≡_ {A = ℕ} 0 (bit (some p))) × (0 < 2)
-unlocked {p} e = (rw (eqb-yes p 0 e), omega arith)
+-- the bit of 0, and of any other number
+pub bit-clear : {v : ℕ} → v ≡ 0 → (_≡_ {A = ℕ} 0 (bit (some v))) × (0 < 2)
+bit-clear {v} e = (rw (eqb-yes v 0 e), omega arith)
 
-pub locked-by : {p : ℕ} → p ≢ 0 → (_≡_ {A = ℕ} 1 (bit (some p))) × (1 < 2)
-locked-by {p} h = (rw (eqb-no p 0 h), omega arith)
+pub bit-set : {v : ℕ} → v ≢ 0 → (_≡_ {A = ℕ} 1 (bit (some v))) × (1 < 2)
+bit-set {v} h = (rw (eqb-no v 0 h), omega arith)
 
 -- a field that the counts give has no more values than its bits, and any other is 0
 pub room-span : (n : Shape) → counted n ≡ true → (f : Field) → room n f ≤ cond (has n (home (kept f))) (span (kept f)) 1
 room-span n k clock = omega arith
 room-span n k running = omega (arith, counts-in n k .processes)
 room-span n k (priority p) = omega arith
+room-span n k (armed p) = omega arith
 room-span n k (timer p) = omega arith
 room-span n k (failed p) = omega arith
 room-span n k (holder l) = go (inside (n .locks) l)

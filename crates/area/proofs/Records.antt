@@ -1,20 +1,22 @@
 -- The records, lent to the rings: what a link says in the part is what it says in the area, a change of nexts alone changes the nexts of the
 -- area's parts and no other, and each queue of a state is a ring of the records. Assumes nothing.
-use Prim.Native.Nat.{ℕ, _+_, _-_, _*_, _/_, _%_, _≤_, _<_}
+use Prim.Native.Nat.{ℕ, zero, suc, _+_, _-_, _*_, _/_, _%_, _≤_, _<_}
 use native.Mathlib.Nat.{le-of-eq}
 use native.Mathlib.Decide.{ℕ-discrete}
 use native.Mathlib.Omega.{arith}
 use borrow.Rule.Slice.PartMut.{midOf, putMid}
 use mathlib.Core.Path.{_≡_, refl, sym, ap, _∙_}
-use mathlib.Core.Bool.{Bool, true, false}
+use mathlib.Core.Bool.{Bool, true, false, _&&_}
 use mathlib.Core.Logic.{_≢_}
 use mathlib.Core.List.{List, _++_, append-nil}
+use lib.Dec.{eqb}
 use lib.ListN.{length, getD, drop, take, length-append, length-drop, drop-of-length-le, List·getD-append}
 use lib.Seq.{ext-getD, getD-append-add, getD-drop, getD-take, length-take-le, take-all}
 use Rattle.model.specs.declared.Shape.{Shape}
 use Rattle.model.specs.Queue.{Queue, inside, exists, member}
 use Rattle.model.specs.Queue.Queue.{ready, park, lock, condition}
-use Rattle.model.specs.Field.Field.{priority, failed}
+use Rattle.model.specs.Field.{some}
+use Rattle.model.specs.Field.Field.{priority, armed, timer, failed}
 use Rattle.model.specs.Machine.{State, model}
 use Rattle.model.proofs.Tests.{inside-bounds}
 use Rattle.links.specs.Link as link
@@ -61,7 +63,13 @@ relinked w v a b c e hb hc hi lo =
     joins : (x y z : ℕ) → v ≡ x * 8192 + y * 8 + z → x ≡ a → z ≡ c * 4 → v ≡ a * 8192 + y * 8 + c * 4
     joins x y z k p q = rw (← p, ← q) k
 
--- ---- what a link says
+-- a bit that is 1 is set
+one-some : (b : ℕ) → b < 2 → eqb b 1 ≡ some b
+one-some zero h = refl
+one-some (suc zero) h = refl
+one-some (suc (suc b)) h = let w : ⊥ = omega arith in absurd w
+
+-- ---- what the records say
 
 module _ (n : Shape) (ws : List ℕ) (t : Parts) (im : Image n ws t) where
   pub records-long : length (records n ws) ≡ length ws - recordsAt n
@@ -87,6 +95,15 @@ module _ (n : Shape) (ws : List ℕ) (t : Parts) (im : Image n ws t) where
   unfolding link.priority
   priority-said p h =
       omega (arith, link-said p h, im .spans (next p) h, im .spans (kept (failed p)) h)
+
+  -- whether p's timer rings
+  pub rings-said : (p : ℕ) → inside (n .processes) p ≡ true → (time : ℕ) → link.rings (records n ws) time p ≡ some (t (kept (armed p))) && eqb (t (kept (timer p))) time
+  unfolding link.rings
+  rings-said p h time =
+      let f : getD (records n ws) (slot p + 1) 0 ≡ word n t (Flags p) = getD-drop (recordsAt n) ws (slot p + 1) 0 ∙ ap (λ i. getD ws i 0) (omega arith) ∙ im .words (Flags p) h in
+      let e : getD (records n ws) (slot p + 2) 0 ≡ t (kept (timer p)) = getD-drop (recordsAt n) ws (slot p + 2) 0 ∙ ap (λ i. getD ws i 0) (omega arith) ∙ im .words (Timer p) h in
+      let a : getD (records n ws) (slot p + 1) 0 / 4 % 2 ≡ t (kept (armed p)) = omega (arith, im .spans (kept (armed p)) h, im .spans (waiting p) h) in
+      rw (a, e) (ap (λ (b : Bool). b && eqb (t (kept (timer p))) time) (one-some (t (kept (armed p))) (im .spans (kept (armed p)) h)))
 
   front-long : length (take (recordsAt n) ws) ≡ recordsAt n
   front-long = length-take-le (recordsAt n) ws (omega (arith, im .long))

@@ -13,7 +13,7 @@ use Rattle.model.specs.declared.Shape.{Shape}
 use Rattle.model.specs.Queue.{Queue-discrete}
 use Rattle.model.specs.Queue.Queue.{ready, park, lock, condition}
 use Rattle.model.specs.Field.{Field-discrete}
-use Rattle.model.specs.Field.Field.{clock, running, priority, timer, failed, holder, wakeup}
+use Rattle.model.specs.Field.Field.{clock, running, priority, armed, timer, failed, holder, wakeup}
 use Rattle.model.specs.Rules.{counted}
 use Rattle.model.proofs.Tests.{decided-case, passes, stops}
 use Rattle.area.specs.declared.places.Place.{Place}
@@ -57,7 +57,7 @@ word-ext n s t (Tail (lock l)) h = rw (h (tail (lock l)) refl, h (locked l) refl
 word-ext n s t (Tail (condition c)) h = rw (h (tail (condition c)) refl, h (kept (wakeup c)) refl)
 word-ext n s t (Holder l) h = rw (h (kept (holder l)) refl)
 word-ext n s t (Link p) h = rw (h (kept (priority p)) refl, h (next p) refl, h (kept (failed p)) refl)
-word-ext n s t (Flags p) h = rw (h (waiting p) refl)
+word-ext n s t (Flags p) h = rw (h (kept (armed p)) refl, h (waiting p) refl)
 word-ext n s t (Timer p) h = h (kept (timer p)) refl
 
 word-other : (n : Shape) (f : Part) (x : ℕ) (t : Parts) (a : Slot) → (home f ≡ a → ⊥) → word n (alter f x t) a ≡ word n t a
@@ -72,6 +72,7 @@ module _ (n : Shape) (t : Parts) (x : ℕ) where
   word-alter (kept clock) = rw (alter-here (kept clock) x t) (omega arith)
   word-alter (kept running) = rw (alter-here (kept running) x t) (omega arith)
   word-alter (kept (priority p)) = rw (alter-here (kept (priority p)) x t, beside (kept (priority p)) (kept (failed p)) (omega arith)) (omega arith)
+  word-alter (kept (armed p)) = rw (alter-here (kept (armed p)) x t) (omega arith)
   word-alter (kept (timer p)) = rw (alter-here (kept (timer p)) x t) (omega arith)
   word-alter (kept (failed p)) = rw (alter-here (kept (failed p)) x t, beside (kept (failed p)) (kept (priority p)) (omega arith)) (omega arith)
   word-alter (kept (holder l)) = rw (alter-here (kept (holder l)) x t) (omega arith)
@@ -104,6 +105,7 @@ module _ (n : Shape) (ws : List ℕ) (t : Parts) (im : Image n ws t) where
   load (kept running) v = omega (arith, im .words Running v, im .spans (kept running) v)
   load (kept (priority p)) v =
       omega (arith, im .words (Link p) v, im .spans (kept (priority p)) v, im .spans (next p) v, im .spans (kept (failed p)) v)
+  load (kept (armed p)) v = omega (arith, im .words (Flags p) v, im .spans (kept (armed p)) v, im .spans (waiting p) v)
   load (kept (timer p)) v = omega (arith, im .words (Timer p) v, im .spans (kept (timer p)) v)
   load (kept (failed p)) v =
       omega (arith, im .words (Link p) v, im .spans (kept (priority p)) v, im .spans (next p) v, im .spans (kept (failed p)) v)
@@ -118,7 +120,7 @@ module _ (n : Shape) (ws : List ℕ) (t : Parts) (im : Image n ws t) where
   load (next p) v =
       omega (arith, im .words (Link p) v, im .spans (kept (priority p)) v, im .spans (next p) v, im .spans (kept (failed p)) v)
   load (locked l) v = omega (arith, im .words (Tail (lock l)) v, im .spans (tail (lock l)) v, im .spans (locked l) v)
-  load (waiting p) v = omega (arith, im .words (Flags p) v, im .spans (waiting p) v)
+  load (waiting p) v = omega (arith, im .words (Flags p) v, im .spans (kept (armed p)) v, im .spans (waiting p) v)
 
   pub parts-said : (f : Part) → has n (home f) ≡ true → partsOf n ws f ≡ t f
   parts-said f v = rw v (load f v)
@@ -180,7 +182,7 @@ word-small n t k sp (Tail (lock l)) v = omega (arith, sp (tail (lock l)) v, sp (
 word-small n t k sp (Tail (condition c)) v = omega (arith, sp (tail (condition c)) v, sp (kept (wakeup c)) v)
 word-small n t k sp (Holder l) v = omega (arith, sp (kept (holder l)) v)
 word-small n t k sp (Link p) v = omega (arith, sp (kept (priority p)) v, sp (next p) v, sp (kept (failed p)) v)
-word-small n t k sp (Flags p) v = omega (arith, sp (waiting p) v)
+word-small n t k sp (Flags p) v = omega (arith, sp (kept (armed p)) v, sp (waiting p) v)
 word-small n t k sp (Timer p) v = sp (kept (timer p)) v
 
 -- a part has room in a word, and counts by the bit in which it ends
@@ -188,6 +190,7 @@ unit-fits : (f : Part) → (span f * unit f ≤ 65536) × ((i : ℕ) × (unit f 
 unit-fits (kept clock) = (omega arith, (0, refl))
 unit-fits (kept running) = (omega arith, (3, refl))
 unit-fits (kept (priority p)) = (omega arith, (13, refl))
+unit-fits (kept (armed p)) = (omega arith, (2, refl))
 unit-fits (kept (timer p)) = (omega arith, (0, refl))
 unit-fits (kept (failed p)) = (omega arith, (2, refl))
 unit-fits (kept (holder l)) = (omega arith, (3, refl))

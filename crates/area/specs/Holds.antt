@@ -9,7 +9,7 @@ use Rattle.model.specs.declared.Answer.{Answer}
 use Rattle.model.specs.Queue.{Queue, bit, inside, exists, member, move, isCondition}
 use Rattle.model.specs.Queue.Queue.{ready}
 use Rattle.model.specs.Field.{Field, put, priorities}
-use Rattle.model.specs.Field.Field.{clock, running, priority, timer, failed, holder, wakeup}
+use Rattle.model.specs.Field.Field.{clock, running, priority, armed, timer, failed, holder, wakeup}
 use Rattle.model.specs.Machine.{State, model, dispatch}
 use Rattle.model.specs.Valid.{room, Placed}
 use Rattle.area.specs.declared.places.Place.{Place}
@@ -52,6 +52,7 @@ abbrev pub plain : Field → Bool
 plain clock = true
 plain running = true
 plain (priority p) = false
+plain (armed p) = true
 plain (timer p) = true
 plain (failed p) = true
 plain (holder l) = false

@@ -10,7 +10,7 @@ use Rattle.model.specs.declared.Shape.{Shape}
 use Rattle.model.specs.Queue.{Queue, Queue-discrete, inside, exists, changed}
 use Rattle.model.specs.Queue.Queue.{ready, park, lock, condition}
 use Rattle.model.specs.Field.{Field, Field-discrete}
-use Rattle.model.specs.Field.Field.{clock, running, priority, timer, failed, holder, wakeup}
+use Rattle.model.specs.Field.Field.{clock, running, priority, armed, timer, failed, holder, wakeup}
 use Rattle.model.specs.Rules.{counted}
 use Rattle.area.specs.declared.places.Place.{Place}
 
@@ -67,7 +67,7 @@ word n t (Tail (lock l)) = t (tail (lock l)) * 8 + t (locked l)
 word n t (Tail (condition c)) = t (tail (condition c)) * 8 + t (kept (wakeup c))
 word n t (Holder l) = t (kept (holder l)) * 8
 word n t (Link p) = t (kept (priority p)) * 8192 + t (next p) * 8 + t (kept (failed p)) * 4
-word n t (Flags p) = t (waiting p) * 2
+word n t (Flags p) = t (kept (armed p)) * 4 + t (waiting p) * 2
 word n t (Timer p) = t (kept (timer p))
 
 -- ---- addresses
@@ -121,6 +121,7 @@ abbrev pub home : Part → Slot
 home (kept clock) = Clock
 home (kept running) = Running
 home (kept (priority p)) = Link p
+home (kept (armed p)) = Flags p
 home (kept (timer p)) = Timer p
 home (kept (failed p)) = Link p
 home (kept (holder l)) = Holder l
@@ -135,6 +136,7 @@ abbrev pub span : Part → ℕ
 span (kept clock) = 65536
 span (kept running) = 1024
 span (kept (priority p)) = 8
+span (kept (armed p)) = 2
 span (kept (timer p)) = 65536
 span (kept (failed p)) = 2
 span (kept (holder l)) = 1024
@@ -149,6 +151,7 @@ abbrev pub unit : Part → ℕ
 unit (kept clock) = 1
 unit (kept running) = 8
 unit (kept (priority p)) = 8192
+unit (kept (armed p)) = 4
 unit (kept (timer p)) = 1
 unit (kept (failed p)) = 4
 unit (kept (holder l)) = 8
@@ -161,6 +164,10 @@ unit (waiting p) = 2
 -- a part that the counts give lies at this place: in this word, with this unit and this span
 abbrev pub Lies : Shape → Part → Place → Type 0
 Lies n f p = (has n (home f) ≡ true) × (p .at ≡ at n (home f)) × (p .unit ≡ unit f) × (p .span ≡ span f)
+
+-- a bit of p's flags that counts so much
+abbrev pub Flag : ℕ → Part → ℕ → Type 0
+Flag p f u = (home f ≡ Flags p) × (unit f ≡ u) × (span f ≡ 2)
 
 -- ---- an area
 

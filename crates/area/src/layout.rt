@@ -1,4 +1,4 @@
-// The layout as the code has it: where the words stand and how much each part of a word counts, each named once. The words of a record and the parts of a link that make rings are links's. specs/Layout.antt is what it is held to. Assumes nothing.
+// The layout as the code has it: where the words stand and how much each part of a word counts, each named once. The words of a record, and the parts of them that rings go by, are links's. specs/Layout.antt is what it is held to. Assumes nothing.
 
 // ---- words
 
@@ -22,11 +22,6 @@ pub const HEAD: usize = 6;
 pub const LOCK: usize = 2;
 
 pub const HOLDER: usize = 1;
-
-// How far behind a record's link its other words stand.
-pub const FLAGS: usize = 1;
-
-pub const TIMER: usize = 2;
 
 // ---- parts of a word: by how much it grows where the part grows by one
 

@@ -14,10 +14,10 @@ ghost use Rattle.model.specs.declared.Shape.{Shape};
 ghost use Rattle.model.specs.Queue.{inside, bit};
 ghost use Rattle.model.specs.Queue.Queue.{ready, lock, condition};
 ghost use Rattle.model.specs.Field.{Field, some};
-ghost use Rattle.model.specs.Field.Field.{running, priority, timer, holder};
+ghost use Rattle.model.specs.Field.Field.{running, priority, armed, timer, holder};
 ghost use Rattle.model.specs.Rules.{readyOrPark};
 ghost use Rattle.model.specs.Machine.{State, model};
-ghost use Rattle.area.specs.Layout.{Part, Parts, span, at, Lies, locksAt, conditionsAt, recordsAt, size, alter, Image, Stored};
+ghost use Rattle.area.specs.Layout.{Part, Parts, span, at, Lies, Flag, locksAt, conditionsAt, recordsAt, size, alter, Image, Stored};
 ghost use Rattle.area.specs.Layout.Part.{kept, waiting};
 ghost use Rattle.area.specs.Layout.Slot.{Tail, Link};
 ghost use Rattle.area.specs.Reading.{shapeOf};
@@ -173,11 +173,11 @@ pub fn put(area: &mut [u16], place: Place, value: u16)
     store(area, place, value);
 }
 
-// The locked bit of a lock with this holder.
-fn locked_by(p: u16) -> u16
-    ensures { λ r. ⌜ (r ≡ bit (some p)) × (r < 2) ⌝ }
+// The bit that says whether a number is other than 0: a lock with this holder is locked, a wait of so many ticks is armed.
+pub fn bit_of(v: u16) -> u16
+    ensures { λ r. ⌜ (r ≡ bit (some v)) × (r < 2) ⌝ }
 {
-    if p == 0 {
+    if v == 0 {
         return 0;
     }
     1
@@ -190,7 +190,7 @@ pub fn set_holder(area: &mut [u16], shape: Shape, l: u16, p: u16)
     requires { ⌜ p ≤ shape .processes ⌝ }
     ensures { λ _. ⌜ ((s : State model) → Holds shape (now (area .entry)) s → Becomes shape (now (area .entry)) (now (area .exit)) (with (holder l) p s)) ⌝ }
 {
-    store(area, places::locked(shape, l), locked_by(p));
+    store(area, places::locked(shape, l), bit_of(p));
     store(area, places::holder(shape, l), p);
 }
 
@@ -204,15 +204,6 @@ pub fn set_running(area: &mut [u16], p: u16)
 
 // ---- the records, lent as a part behind what stands in front of them
 
-// p's timer.
-pub fn timer_in(records: &[u16], p: u16) -> u16
-    requires { ⌜ ((n : Shape) × (front : List ℕ) × (t : Parts) × (length front ≡ recordsAt n) × Image n (front ++ now records) t × (inside (n .processes) p ≡ true)) ⌝ }
-    ensures { λ r. ⌜ ((n : Shape) (front : List ℕ) (t : Parts) → length front ≡ recordsAt n → Image n (front ++ now (records .entry)) t → inside (n .processes) p ≡ true → r ≡ t (kept (timer p))) ⌝ }
-{
-    let at = (p as usize - 1) * RECORD + layout::TIMER;
-    records[at]
-}
-
 // p's priority.
 pub fn set_rank(records: &mut [u16], p: u16, v: u16)
     requires { ⌜ ((n : Shape) × (front : List ℕ) × (t : Parts) × (length front ≡ recordsAt n) × Image n (front ++ now records) t × (inside (n .processes) p ≡ true)) ⌝ }
@@ -224,22 +215,33 @@ pub fn set_rank(records: &mut [u16], p: u16, v: u16)
     records[at] = with_part(link, links::PRIORITY, links::PRIORITIES as u32, v);
 }
 
-// p's waiting bit, which goes with a move; the flags have no other bit.
+// One bit of p's flags, by how much it counts there.
+fn set_flag(records: &mut [u16], p: u16, unit: u16, value: u16)
+    requires { ⌜ ((n : Shape) × (front : List ℕ) × (t : Parts) × (f : Part) × (length front ≡ recordsAt n) × Image n (front ++ now records) t × (inside (n .processes) p ≡ true) × Flag p f unit) ⌝ }
+    requires { ⌜ value < 2 ⌝ }
+    ensures { λ _. ⌜ ((n : Shape) (front : List ℕ) (t : Parts) (f : Part) → length front ≡ recordsAt n → Image n (front ++ now (records .entry)) t → inside (n .processes) p ≡ true → Flag p f unit → Stored n (front ++ now (records .entry)) (front ++ now (records .exit)) (alter f value t)) ⌝ }
+{
+    let at = (p as usize - 1) * RECORD + links::FLAGS;
+    let flags = records[at];
+    records[at] = with_part(flags, unit, layout::BIT, value);
+}
+
+// p's waiting bit, which goes with a move.
 pub fn set_waiting(records: &mut [u16], p: u16, waits: u16)
     requires { ⌜ ((n : Shape) × (front : List ℕ) × (t : Parts) × (length front ≡ recordsAt n) × Image n (front ++ now records) t × (inside (n .processes) p ≡ true)) ⌝ }
     requires { ⌜ waits < 2 ⌝ }
     ensures { λ _. ⌜ ((n : Shape) (front : List ℕ) (t : Parts) → length front ≡ recordsAt n → Image n (front ++ now (records .entry)) t → inside (n .processes) p ≡ true → Stored n (front ++ now (records .entry)) (front ++ now (records .exit)) (alter (waiting p) waits t)) ⌝ }
 {
-    let at = (p as usize - 1) * RECORD + layout::FLAGS;
-    records[at] = waits * layout::WAITING;
+    set_flag(records, p, layout::WAITING, waits);
 }
 
-// p's timer is 0 and its waiting bit clear, which goes with waking.
+// p's timer is 0, and it is neither armed nor waiting, which goes with waking.
 pub fn set_awake(records: &mut [u16], p: u16)
     requires { ⌜ ((n : Shape) × (front : List ℕ) × (t : Parts) × (length front ≡ recordsAt n) × Image n (front ++ now records) t × (inside (n .processes) p ≡ true)) ⌝ }
-    ensures { λ _. ⌜ ((n : Shape) (front : List ℕ) (t : Parts) → length front ≡ recordsAt n → Image n (front ++ now (records .entry)) t → inside (n .processes) p ≡ true → Stored n (front ++ now (records .entry)) (front ++ now (records .exit)) (alter (waiting p) 0 (alter (kept (timer p)) 0 t))) ⌝ }
+    ensures { λ _. ⌜ ((n : Shape) (front : List ℕ) (t : Parts) → length front ≡ recordsAt n → Image n (front ++ now (records .entry)) t → inside (n .processes) p ≡ true → Stored n (front ++ now (records .entry)) (front ++ now (records .exit)) (alter (waiting p) 0 (alter (kept (armed p)) 0 (alter (kept (timer p)) 0 t)))) ⌝ }
 {
-    let at = (p as usize - 1) * RECORD + layout::TIMER;
+    let at = (p as usize - 1) * RECORD + links::TIMER;
     records[at] = 0;
+    set_flag(records, p, links::ARMED, 0);
     set_waiting(records, p, 0);
 }

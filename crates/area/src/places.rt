@@ -40,12 +40,23 @@ pub fn failed(shape: Shape, p: u16) -> Place
     }
 }
 
+pub fn armed(shape: Shape, p: u16) -> Place
+    requires { ⌜ inside (shape .processes) p ≡ true ⌝ }
+    ensures { λ r. ⌜ Lies shape (kept (Field.armed p)) r ⌝ }
+{
+    Place {
+        at: record_at(shape, p) + links::FLAGS,
+        unit: links::ARMED,
+        span: layout::BIT,
+    }
+}
+
 pub fn timer(shape: Shape, p: u16) -> Place
     requires { ⌜ inside (shape .processes) p ≡ true ⌝ }
     ensures { λ r. ⌜ Lies shape (kept (Field.timer p)) r ⌝ }
 {
     Place {
-        at: record_at(shape, p) + layout::TIMER,
+        at: record_at(shape, p) + links::TIMER,
         unit: 1,
         span: layout::WORD,
     }

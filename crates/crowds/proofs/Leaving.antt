@@ -1,37 +1,38 @@
--- Many leave: a ring swept by the timers of its members, or emptied. Only the links and the tail of the ring at hand change, so the area stays
+-- Many leave: a ring swept by its members' timers, or emptied. Only the links and the tail of the ring at hand change, so the area stays
 -- one in the midst of a wake. Assumes nothing.
 use Prim.Native.Nat.{ℕ, _+_, _-_, _/_, _%_, _<_}
 use native.Mathlib.Omega.{arith}
 use borrow.Rule.Slice.PartMut.{midOf, putMid}
 use mathlib.Core.Path.{_≡_, refl, sym, ap, _∙_, subst, fun-ext}
-use mathlib.Core.Bool.{true, not, false≢true}
+use mathlib.Core.Bool.{true, not, _&&_, false≢true}
 use mathlib.Core.List.{List, [], _++_}
 use lib.Dec.{eqb}
 use lib.ListN.{length, getD, set, take, take-append-drop}
-use lib.Seq.{getD-drop}
 use Rattle.model.specs.declared.Shape.{Shape}
 use Rattle.model.specs.Queue.{Queue, inside, exists, member, filter}
-use Rattle.model.specs.Field.{Fields, priorities}
-use Rattle.model.specs.Field.Field.{timer}
+use Rattle.model.specs.Field.{Fields, some, priorities}
+use Rattle.model.specs.Field.Field.{armed, timer}
+use Rattle.model.specs.Rules.{rings}
 use Rattle.model.specs.Machine.{State, model}
 use Rattle.model.proofs.Tests.{holds, fails, SameCase, same-case, denied}
 use Rattle.model.proofs.Lists.{filter-member, falling-filter}
 use Rattle.model.proofs.Many.{filter-agree}
-use Rattle.links.specs.Link.{relink, slot}
+use Rattle.links.specs.Link as link
+use Rattle.links.specs.Link.{relink}
 use Rattle.ring.specs.Ring.{Ring, Kept}
 use Rattle.ring.proofs.Frame.{kept-ring}
 use Rattle.ring.proofs.Rings.{ring-empty, ring-tail-small}
-use Rattle.many.specs.Many.{stays, Swept}
+use Rattle.many.specs.Many.{Swept}
 use Rattle.area.specs.Layout.{recordsAt, at}
 use Rattle.area.specs.Layout.Part.{tail}
-use Rattle.area.specs.Layout.Slot.{Tail, Timer}
+use Rattle.area.specs.Layout.Slot.{Tail}
 use Rattle.area.specs.State.{last, laid}
 use Rattle.area.specs.Holds.{Holds}
 use Rattle.area.specs.Rings.{records, swap, Relinked}
 use Rattle.area.specs.Loose.{Loose}
 use Rattle.crowds.specs.Crowds.{Emptied, swept}
 use Rattle.area.proofs.Stores.{load-at}
-use Rattle.area.proofs.Records.{part-back}
+use Rattle.area.proofs.Records.{part-back, rings-said}
 use Rattle.moves.proofs.Relinks.{lent, lent-ring, back-set, relink-ring}
 use Rattle.moves.proofs.Loose.{loose-of, loose-relinked}
 
@@ -49,21 +50,19 @@ module _ {n : Shape} {old ws : List ℕ} {f : Fields} {qs : Queue → List ℕ} 
   pub loose-ring : Ring (midOf a (length ws - a) ws) w (qs q)
   loose-ring = lent-ring q (L .rings) given here at-records reads
 
-  -- the word that the sweep goes by is the timer
-  by-timer : (time x : ℕ) → inside (n .processes) x ≡ true → stays (midOf a (length ws - a) ws) 2 time x ≡ not (eqb (f (timer x)) time)
-  by-timer time x h =
-      let e : getD (midOf a (length ws - a) ws) (slot x + 2) 0 ≡ f (timer x) =
-      ap (λ (r : List ℕ). getD r (slot x + 2) 0) (lent n ws at-records) ∙ getD-drop (recordsAt n) ws (slot x + 2) 0
-      ∙ ap (λ k. getD ws k 0) (let k : recordsAt n + (slot x + 2) ≡ at n (Timer x) = omega arith in k) ∙ L .rings .image .words (Timer x) h ∙ L .fields (timer x) in
-      rw e
+  -- whose timer rings in the words rings by the fields
+  by-fields : (time x : ℕ) → inside (n .processes) x ≡ true → link.rings (midOf a (length ws - a) ws) time x ≡ rings f time x
+  by-fields time x h =
+      ap (λ (r : List ℕ). link.rings r time x) (lent n ws at-records) ∙ rings-said n ws (L .parts) (L .rings .image) x h time
+      ∙ (λ i. some (L .fields (armed x) i) && eqb (L .fields (timer x) i) time)
 
-  pub loose-swept : (time : ℕ) (r : List ℕ) (u v : ℕ) → Swept (midOf a (length ws - a) ws) r 2 time u (qs q) → v ≡ relink (getD ws i 0) u
+  pub loose-swept : (time : ℕ) (r : List ℕ) (u v : ℕ) → Swept (midOf a (length ws - a) ws) r time u (qs q) → v ≡ relink (getD ws i 0) u
       → Loose n old (set (putMid a (length ws - a) ws r) i v) f (swept f time qs q)
   loose-swept time r u v S e =
       rw (part-back a ws r, at-records)
       (loose-relinked q xs L
       (λ x m. L .waits q x (there x m))
-      (falling-filter (priorities f) (λ x. not (eqb (f (timer x)) time)) (qs q) (L .falls q))
+      (falling-filter (priorities f) (λ x. not (rings f time x)) (qs q) (L .falls q))
       (relink-ring n ws (L .parts) qs q (L .rings) given xs r (qs q) u i v
       (λ x m. L .rings .own q x (there x m))
       (λ x o m k. L .rings .one q o x (there x m) k)
@@ -74,20 +73,20 @@ module _ {n : Shape} {old ws : List ℕ} {f : Fields} {qs : Queue → List ℕ} 
       (ring-tail-small xs ring) here e))
     where
       xs : List ℕ
-      xs = filter (λ x. not (eqb (f (timer x)) time)) (qs q)
+      xs = filter (λ x. not (rings f time x)) (qs q)
 
       ring : Ring r u xs
-      ring = subst (λ (ys : List ℕ). Ring r u ys) (filter-agree (stays (midOf a (length ws - a) ws) 2 time) (λ x. not (eqb (f (timer x)) time)) (qs q) (λ x m. by-timer time x (L .rings .own q x m))) (S .ring)
+      ring = subst (λ (ys : List ℕ). Ring r u ys) (filter-agree (λ x. not (link.rings (midOf a (length ws - a) ws) time x)) (λ x. not (rings f time x)) (qs q) (λ x m. ap not (by-fields time x (L .rings .own q x m)))) (S .ring)
 
       there : (x : ℕ) → member x xs ≡ true → member x (qs q) ≡ true
-      there x m = filter-member (λ x. not (eqb (f (timer x)) time)) x (qs q) m .0
+      there x m = filter-member (λ x. not (rings f time x)) x (qs q) m .0
 
 -- a word below 8 names nobody: its queue is empty, and a sweep of it changes nothing
 pub loose-empty : {n : Shape} {old ws : List ℕ} {f : Fields} {qs : Queue → List ℕ} (L : Loose n old ws f qs) (q : Queue) {i : ℕ} → exists n q ≡ true → i ≡ at n (Tail q) → (time : ℕ) → getD ws i 0 < 8
     → Loose n old ws f (swept f time qs q)
 loose-empty {n} {old} {ws} {f} {qs} L q given here time low =
     let none : qs q ≡ [] = ring-empty (qs q) (loose-ring L q given here _ _ refl refl) (omega arith) in
-    subst (Loose n old ws f) (sym (ap (swap qs q) (ap (filter (λ x. not (eqb (f (timer x)) time))) none ∙ sym none) ∙ swap-own qs q)) L
+    subst (Loose n old ws f) (sym (ap (swap qs q) (ap (filter (λ x. not (rings f time x))) none ∙ sym none) ∙ swap-own qs q)) L
 
 -- ---- all leave
 

@@ -3,14 +3,12 @@ use Prim.Native.Nat.{ℕ, zero, suc, _*_, _≤_}
 use mathlib.Core.Path.{_≡_}
 use mathlib.Core.Bool.{true, false, not}
 use mathlib.Core.List.{List, [], _∷_, _++_}
-use lib.Dec.{eqb}
 use lib.ListN.{set}
 use Rattle.model.specs.declared.Shape.{Shape}
 use Rattle.model.specs.Queue.{Queue, inside, upTo, member, count, insert, joined, filter}
 use Rattle.model.specs.Queue.Queue.{ready, condition}
-use Rattle.model.specs.Field.{Fields, put, priorities}
-use Rattle.model.specs.Field.Field.{timer}
-use Rattle.model.specs.Rules.{calm}
+use Rattle.model.specs.Field.{Fields, priorities}
+use Rattle.model.specs.Rules.{disarm, calm, rings}
 use Rattle.model.specs.Machine.{State, model}
 use Rattle.links.specs.Link as link
 use Rattle.many.specs.Many.{Lasts}
@@ -26,9 +24,9 @@ pub record Emptied (n : Shape) (old new : List ℕ) (s : State model) (q : Queue
   pub loose : Loose n old new (s .fields) (swap (s .queues) q [])
   pub same : records n new ≡ records n old
 
--- the queues when those whose timer is at this time have left q
+-- the queues when those whose timer rings at this time have left q
 abbrev pub swept : Fields → ℕ → (Queue → List ℕ) → Queue → Queue → List ℕ
-swept f time qs q = swap qs q (filter (λ x. not (eqb (f (timer x)) time)) (qs q))
+swept f time qs q = swap qs q (filter (λ x. not (rings f time x)) (qs q))
 
 -- the queues when it is so of conditions 1 to k
 abbrev pub staying : Fields → ℕ → ℕ → (Queue → List ℕ) → Queue → List ℕ
@@ -51,9 +49,9 @@ pub record Rises (n : Shape) (ws lasts : List ℕ) (p : ℕ) : Type 0 where
   pub out : (q : Queue) → member p (queues q) ≡ false
   pub noted : Lasts (priorities fields) (queues ready) lasts
 
--- p has woken: its timer is 0, it has joined ready, it is noted, and the nexts of others stay
+-- p has woken: it is no longer armed, its timer is 0, it has joined ready, it is noted, and the nexts of others stay
 pub record Risen (n : Shape) (was new lasts : List ℕ) (p : ℕ) (old : List ℕ) (f : Fields) (qs : Queue → List ℕ) : Type 0 where
-  pub loose : Loose n old new (put (timer p) 0 f) (swap qs ready (insert (priorities f) p (qs ready)))
+  pub loose : Loose n old new (disarm p f) (swap qs ready (insert (priorities f) p (qs ready)))
   pub noted : Lasts (priorities f) (insert (priorities f) p (qs ready)) lasts
   pub nexts : (x : ℕ) → inside (n .processes) x ≡ true → member x (p ∷ qs ready) ≡ false → link.next (records n new) x ≡ link.next (records n was) x
 
@@ -76,6 +74,6 @@ abbrev pub Chain : (ℕ → ℕ) → ℕ → List ℕ → Type 0
 Chain nx a [] = Unit {0}
 Chain nx a (x ∷ xs) = (a ≡ x) × Chain nx (nx x) xs
 
--- those of 1 to k whose timer is at this time
+-- those of 1 to k whose timer rings at this time
 abbrev pub ringing : Fields → ℕ → ℕ → List ℕ
-ringing f time k = filter (λ x. eqb (f (timer x)) time) (upTo k)
+ringing f time k = filter (rings f time) (upTo k)

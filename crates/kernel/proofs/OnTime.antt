@@ -1,11 +1,14 @@
--- No wake is slept through: what is read back out of a read of the timers, and out of each Tick, keeps its promise, and what follows from the
+-- No wake is slept through: what is read back out of a read of the timers, and out of each call, keeps its promise, and what follows from the
 -- promises on areas follows for the exports. Assumes nothing.
 use Prim.Native.Nat.{ℕ}
 use mathlib.Core.List.{List, map}
+use Rattle.model.specs.declared.Call.{Call}
 use Rattle.monitor.specs.Calls.{Performs}
 use Rattle.wire.specs.Wire.{answerOf}
-use Rattle.monitor.specs.Ticks.{WakesIn, Still}
-use Rattle.monitor.proofs.Ticks.{told-wakes, nearest-wakes, still-before, still-ever}
+use Rattle.monitor.specs.History.{Run}
+use Rattle.monitor.specs.History.Run.{none, then}
+use Rattle.monitor.specs.Ticks.{WakesIn, Still, Undisturbed, SleepsFor}
+use Rattle.monitor.proofs.Ticks.{told-wakes, nearest-wakes, still-before, still-ever, wait-lasts}
 use Rattle.kernel.specs.Exports.{Crosses}
 use Rattle.kernel.specs.Demands.{OnTime}
 use Rattle.kernel.proofs.Demands.{demand2, run-crossed}
@@ -17,10 +20,19 @@ wakes-crossed W = record { condition = W .condition; waits = λ h R. W .waits h 
 still-crossed : (ws : List ℕ) (k : ℕ) → Still Performs ws k → Still Crosses ws k
 still-crossed ws k S new rs R = S new (map answerOf rs) (run-crossed R)
 
+-- so does a run in which nobody else wakes p
+run-undisturbed : {p : ℕ} {cs : List Call} {old new : List ℕ} {rs : List ℕ} → Run (Undisturbed Crosses p) cs old new rs → Run (Undisturbed Performs p) cs old new (map answerOf rs)
+run-undisturbed none = none
+run-undisturbed (then U R) = then (record { kept = demand2 .call (U .kept); asleep = U .asleep }) (run-undisturbed R)
+
+sleeps-crossed : {ws : List ℕ} {p c t : ℕ} → SleepsFor Performs ws p c t → SleepsFor Crosses ws p c t
+sleeps-crossed S = record { waits = λ R h. S .waits (run-undisturbed R) h; wakes = λ R e C. S .wakes (run-undisturbed R) e (demand2 .call C) }
+
 pub on-time : OnTime
 on-time = record {
   due = λ k D h. wakes-crossed (told-wakes k (demand2 .due k D) h);
   nearest = λ N o. wakes-crossed (nearest-wakes (demand2 .nearest N) o);
   before = λ {ws} {r} {k} N h. still-crossed ws k (still-before (demand2 .nearest N) h);
   never = λ {ws} k N z o. still-crossed ws k (still-ever (demand2 .nearest N) k z o);
+  wait = λ C m low high. sleeps-crossed (wait-lasts (demand2 .call C) m low high);
 }

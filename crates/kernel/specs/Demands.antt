@@ -1,5 +1,4 @@
--- The three demands, that whoever a read of the timers tells wakes on time, and that the words beyond an area's size are neither read nor
--- changed: each a statement about what the exports promise, over every area, of any length and content, and every number. They hold by
+-- The three demands, that whoever waits wakes on time, and that the words beyond an area's size are neither read nor changed: each a statement about what the exports promise, over every area, of any length and content, and every number. They hold by
 -- `crates/kernel/proofs/Demands.antt`, and `OnTime` by `OnTime.antt` beside it. Assumes nothing.
 use Prim.Native.Nat.{ℕ, _+_, _*_, _≤_, _<_}
 use mathlib.Core.Path.{_≡_}
@@ -7,17 +6,20 @@ use mathlib.Core.Logic.{_≢_, _↔_}
 use mathlib.Core.List.{List}
 use lib.ListN.{length, getD, take, drop}
 use Rattle.model.specs.declared.Shape.{Shape}
+use Rattle.model.specs.declared.Ticks.{Ticks}
 use Rattle.model.specs.declared.Call.{Call}
+use Rattle.model.specs.declared.Call.the-variants.{Wait}
+use Rattle.model.specs.Field.Field.{running}
 use Rattle.model.specs.Machine.{refusal}
 use Rattle.model.specs.Reports.{Refused}
 use Rattle.area.specs.Layout.{size}
-use Rattle.area.specs.Reading.{shapeOf, Agree}
+use Rattle.area.specs.Reading.{shapeOf, stateOf, Agree}
 use Rattle.area.specs.Sound.{Sound}
 use Rattle.start.specs.Start.{Starts}
 use Rattle.monitor.specs.Calls.{Performs, ListsOn, TellsOn, SheetsOn, NearestOn, Spares}
 use Rattle.wire.specs.Wire.{answerOf, reportOf, nearestOf}
 use Rattle.monitor.specs.History as history
-use Rattle.monitor.specs.Ticks.{WakesIn, Still}
+use Rattle.monitor.specs.Ticks.{WakesIn, Still, SleepsFor}
 use Rattle.kernel.specs.Exports.{Crosses, Begins, Writes, Dues, Pages, Nears, Judges}
 
 -- 1. Every area and every number is answered, since no export requires anything; and a wrong number gets the refusal that the rules of demand 2
@@ -56,12 +58,15 @@ abbrev pub Demand3 : Type 0
 Demand3 = history.Demand3 answerOf Begins Crosses
 
 -- A sleeping probe never sleeps through a wake: whoever is told with d ticks left, by either read, wakes in the d-th Tick and in no earlier one;
--- and before the nearest's tick no Tick moves anybody, nor does any where there is no nearest
+-- and before the nearest's tick no Tick moves anybody, nor does any where there is no nearest. And a Wait of t ticks with mark 1 lasts t ticks, at
+-- every clock, whatever calls come between, unless one of them wakes its caller
 pub record OnTime : Type 0 where
   pub due : (k : ℕ) {ws old new : List ℕ} {r i : ℕ} → Dues k ws old new r → i < reportOf 20 r .count → WakesIn Crosses ws (getD new (2 * i) 0) (getD new (2 * i + 1) 0)
   pub nearest : {ws : List ℕ} {r : ℕ} → Nears ws r → nearestOf r .process ≢ 0 → WakesIn Crosses ws (nearestOf r .process) (nearestOf r .left)
   pub before : {ws : List ℕ} {r k : ℕ} → Nears ws r → k < nearestOf r .left → Still Crosses ws k
   pub never : {ws : List ℕ} {r : ℕ} (k : ℕ) → Nears ws r → nearestOf r .code ≡ 0 → nearestOf r .process ≡ 0 → Still Crosses ws k
+  pub wait : {l c : ℕ} {t : Ticks} {old new : List ℕ} {r : ℕ} → Crosses (Wait l c t) old new r → answerOf r .mark ≡ 1 → 1 ≤ t .0 → t .0 ≤ 65535
+      → SleepsFor Crosses new (stateOf old .fields running) c (t .0)
 
 -- The words beyond an area's size are never changed and never read: areas that agree below it are answered alike, and agree afterwards. Start
 -- reads no word that it finds: `overwrites` above

@@ -1,6 +1,8 @@
--- The process records: three words for each process, the link first. Assumes nothing.
+-- The process records: three words for each process, its link, its flags and its timer. Assumes nothing.
 use Prim.Native.Nat.{ℕ, _+_, _-_, _*_, _/_, _%_, _≤_, _<_}
+use mathlib.Core.Bool.{Bool, _&&_}
 use mathlib.Core.List.{List}
+use lib.Dec.{eqb}
 use lib.ListN.{length, getD, set}
 
 -- p is a process whose three words r has
@@ -24,6 +26,10 @@ next r p = link r p / 8 % 1024
 -- p's priority
 unfoldable pub priority : List ℕ → ℕ → ℕ
 priority r p = link r p / 8192
+
+-- p is armed, which is bit 13 of its flags, and its timer is at this time
+unfoldable pub rings : List ℕ → ℕ → ℕ → Bool
+rings r time p = eqb (getD r (slot p + 1) 0 / 4 % 2) 1 && eqb (getD r (slot p + 2) 0) time
 
 -- a link with another next, and every other bit as it was
 abbrev pub relink : ℕ → ℕ → ℕ

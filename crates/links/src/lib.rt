@@ -1,12 +1,19 @@
-// The words that a process's number stands in: read and write a link, which has the priority of a process, its next in its ring, and failed. Assumes nothing.
+// The words that a process's number stands in: read and write a link, which has the priority of a process, its next in its ring, and failed. And whether a process's timer rings. Assumes nothing.
 ghost use mathlib.Core.Path.{_≡_};
 ghost use Prim.Native.Nat.{_+_, _*_, _/_, _%_, _≤_, _<_};
 ghost use lib.Dec.{eqb};
 ghost use lib.ListN.{set};
-ghost use Rattle.links.specs.Link.{Stands, slot, link, next, priority, relink, point, wedge};
+ghost use Rattle.links.specs.Link.{Stands, slot, link, next, priority, rings, relink, point, wedge};
 
-// The words of a process's record; the link is the first of them.
+// The words of a process's record; the link is the first of them, and the others stand so far behind it.
 pub const RECORD: usize = 3;
+
+pub const FLAGS: usize = 1;
+
+pub const TIMER: usize = 2;
+
+// Armed counts so much in the flags.
+pub const ARMED: u16 = 4;
 
 // A link's priority counts in steps of this many.
 pub const PRIORITY: u16 = 8192;
@@ -93,6 +100,18 @@ pub fn least_of(records: &[u16], p: u16) -> u16
     ensures { λ r. ⌜ r ≡ priority (now (records .entry)) p * 8192 ⌝ }
 {
     link_of(records, p) / PRIORITY * PRIORITY
+}
+
+// Whether p is armed and its timer is at this time. Mostly the timer tells.
+pub fn rings(records: &[u16], p: u16, time: u16) -> bool
+    requires { ⌜ Stands (now records) p ⌝ }
+    ensures { λ r. ⌜ r ≡ rings (now (records .entry)) time p ⌝ }
+{
+    let at = link_at(p);
+    if records[at + TIMER] != time {
+        return false;
+    }
+    records[at + FLAGS] / ARMED % 2 == 1
 }
 
 // ---- writers

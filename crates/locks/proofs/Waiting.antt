@@ -14,9 +14,9 @@ use Rattle.model.specs.declared.Answer.{Answer}
 use Rattle.model.specs.declared.Call.the-variants.{Wait}
 use Rattle.model.specs.Queue.{Queue, bit, outside, member, count, firstOnly, aheadOf, remove, insert, move, toReady}
 use Rattle.model.specs.Queue.Queue.{ready, lock, condition}
-use Rattle.model.specs.Field.{Fields, put, priorities}
-use Rattle.model.specs.Field.Field.{clock, running, timer, holder, wakeup}
-use Rattle.model.specs.Rules.{when, decide, released, alarm}
+use Rattle.model.specs.Field.{Fields, put, some, priorities}
+use Rattle.model.specs.Field.Field.{clock, running, armed, timer, holder, wakeup}
+use Rattle.model.specs.Rules.{when, decide, released, alarm, arm}
 use Rattle.model.specs.Rules.Effect.{accept}
 use Rattle.model.specs.Machine.{State, model, moves, arrivals, finish, refusal}
 use Rattle.model.specs.Valid.{Valid}
@@ -29,23 +29,20 @@ use Rattle.area.specs.Calls.{Does, CallingTwo, changed}
 use Rattle.outcomes.proofs.Outcomes.{when-yes, when-no, choose-yes, choose-no, Tested, two-tested, refuses, refuses-by, accepts, accepts-ready}
 use Rattle.moves.proofs.Shared.{runner-stands}
 
--- ---- the timer, 0 for none and 1 in the place of 0
+-- ---- armed and the timer
 
 pub alarm-none : (now : ℕ) {t : ℕ} → t ≡ 0 → _≡_ {A = ℕ} 0 (alarm now t)
 alarm-none now {t} e = rw (eqb-yes t 0 e)
 
-module _ (now : ℕ) {t d : ℕ} (some-ticks : t ≢ 0) (e : d ≡ (now + t) % 65536) where
-  pub alarm-one : d ≡ 0 → _≡_ {A = ℕ} 1 (alarm now t)
-  alarm-one z = rw (eqb-no t 0 some-ticks, ← e, eqb-yes d 0 z)
+pub alarm-due : (now : ℕ) {t d : ℕ} → t ≢ 0 → d ≡ (now + t) % 65536 → d ≡ alarm now t
+alarm-due now {t} o e = rw (eqb-no t 0 o) e
 
-  pub alarm-due : d ≢ 0 → d ≡ alarm now t
-  alarm-due z = rw (eqb-no t 0 some-ticks, ← e, eqb-no d 0 z)
-
--- the timer is set by the clock of the state
-pub sleeps : {n : Shape} {old new : List ℕ} (s : State model) (p k t : ℕ) {now d : ℕ} → now ≡ s .fields clock → d ≡ alarm now t
-    → Becomes n old new (sent p (condition k) (with (timer p) d s)) → Becomes n old new (changed (put (timer p) (alarm (s .fields clock) t) (s .fields)) ((p, condition k) ∷ []) s)
-sleeps {n} {old} {new} s p k t ec ed b =
-    subst (λ (x : ℕ). Becomes n old new (changed (put (timer p) x (s .fields)) ((p, condition k) ∷ []) s)) (ed ∙ ap {A = ℕ} (λ x. alarm x t) ec) b
+-- they are set by the ticks, and by the clock of the state
+pub sleeps : {n : Shape} {old new : List ℕ} (s : State model) (p k t : ℕ) {a now d : ℕ} → a ≡ bit (some t) → now ≡ s .fields clock → d ≡ alarm now t
+    → Becomes n old new (sent p (condition k) (with (timer p) d (with (armed p) a s))) → Becomes n old new (changed (arm p t (s .fields)) ((p, condition k) ∷ []) s)
+sleeps {n} {old} {new} s p k t {d = d} ea ec ed b =
+    subst (λ (x : ℕ). Becomes n old new (changed (put (timer p) x (put (armed p) (bit (some t)) (s .fields))) ((p, condition k) ∷ []) s)) (ed ∙ ap {A = ℕ} (λ x. alarm x t) ec)
+    (subst (λ (x : ℕ). Becomes n old new (sent p (condition k) (with (timer p) d (with (armed p) x s)))) ea b)
 
 -- ---- who stands in ready stays there when others come
 
@@ -77,7 +74,7 @@ module _ {n : Shape} {old : List ℕ} {s : State model} (H : Holds n old s) (l k
 
   -- and then the running process sleeps
   abbrev asleep : Fields
-  asleep = put (timer r) (alarm (s .fields clock) (t .0)) (left .fields)
+  asleep = arm r (t .0) (left .fields)
 
   tested : Tested j (λ e. when (eqb (s .fields running) 0) 6 (when (outside (n .locks) l || outside (n .conditions) k) 7 e))
   tested = rw (← er) (two-tested ej)
@@ -116,7 +113,7 @@ module _ {n : Shape} {old : List ℕ} {s : State model} (H : Holds n old s) (l k
           let q = moves-append (priorities asleep) (released (s .queues) l) ((r, condition k) ∷ []) (s .queues) in
           accepts H (Wait l k t) {mid = mid} {new = new} {a = a} asleep (released (s .queues) l ++ ((r, condition k) ∷ [])) 1 m others
           (tested .passed z _ ∙ when-no 9 _ own ∙ choose-no _ _ (ap not (eqb-yes (s .fields (wakeup k)) 0 (sym ew ∙ e)))
-          ∙ ap {A = ℕ} (λ x. accept (put (timer x) (alarm (s .fields clock) (t .0)) (left .fields)) (released (s .queues) l ++ ((x, condition k) ∷ [])) 1) (sym er))
+          ∙ ap {A = ℕ} (λ x. accept (arm x (t .0) (left .fields)) (released (s .queues) l ++ ((x, condition k) ∷ [])) 1) (sym er))
           (came ∙ (let d = arrivals-append (s .queues ready) (released (s .queues) l) ((r, condition k) ∷ []) in omega arith))
           (h ∙ sym (rw q (ahead-after (changed asleep ((r, condition k) ∷ []) left .queues) (firstOnly (s .queues (lock l))) ((r, condition k) ∷ []))))
           (rw q b)

@@ -13,38 +13,32 @@ ghost use lib.ListN.{length};
 ghost use Rattle.model.specs.declared.Call.the-variants.{Wait};
 ghost use Rattle.model.specs.Queue.{Queue, inside, member, aheadOf};
 ghost use Rattle.model.specs.Queue.Queue.{ready};
-ghost use Rattle.model.specs.Field.{put};
-ghost use Rattle.model.specs.Field.Field.{clock, timer};
-ghost use Rattle.model.specs.Rules.{alarm};
+ghost use Rattle.model.specs.Rules.{alarm, arm};
 ghost use Rattle.model.specs.Machine.{State, model};
 ghost use Rattle.model.specs.Valid.{Valid};
 ghost use Rattle.area.specs.Holds.{Holds, Becomes};
 ghost use Rattle.area.specs.Calls.{Stands, Does, changed};
 
-// The timer of a wait of t ticks: 0 for none; 0 stands for no timer, so 1 takes its place.
+// The timer of a wait of t ticks: the clock plus t, going round, or 0 for none.
 fn alarm_at(now: u16, t: u16) -> u16
     ensures { λ r. ⌜ r ≡ alarm now t ⌝ }
 {
     if t == 0 {
         return 0;
     }
-    let due = std::num::wrapping_add_u16(now, t);
-    if due == 0 {
-        return 1;
-    }
-    due
+    std::num::wrapping_add_u16(now, t)
 }
 
-// The running process p sets its timer and moves to the condition. How many are ahead of it there.
+// The running process p is armed and sets its timer, if it is to wait for some ticks, and moves to the condition. How many are ahead of it there.
 fn sleep(area: &mut [u16], shape: Shape, condition: u16, p: u16, ticks: Ticks) -> u16
     requires { ⌜ ((s : State model) × Holds shape (now area) s × (member p (s .queues ready) ≡ true)) ⌝ }
     requires { ⌜ inside (shape .conditions) condition ≡ true ⌝ }
-    ensures { λ r. ⌜ ((s : State model) → Holds shape (now (area .entry)) s → member p (s .queues ready) ≡ true → (r ≡ length (aheadOf p (changed (put (timer p) (alarm (s .fields clock) (ticks .0)) (s .fields)) ((p, Queue.condition condition) ∷ []) s .queues (Queue.condition condition)))) × Becomes shape (now (area .entry)) (now (area .exit)) (changed (put (timer p) (alarm (s .fields clock) (ticks .0)) (s .fields)) ((p, Queue.condition condition) ∷ []) s)) ⌝ }
+    ensures { λ r. ⌜ ((s : State model) → Holds shape (now (area .entry)) s → member p (s .queues ready) ≡ true → (r ≡ length (aheadOf p (changed (arm p (ticks .0) (s .fields)) ((p, Queue.condition condition) ∷ []) s .queues (Queue.condition condition)))) × Becomes shape (now (area .entry)) (now (area .exit)) (changed (arm p (ticks .0) (s .fields)) ((p, Queue.condition condition) ∷ []) s)) ⌝ }
 {
     let now = area::get(area, places::clock());
     let t = ticks.0;
-    let due = alarm_at(now, t);
-    area::put(area, places::timer(shape, p), due);
+    area::put(area, places::armed(shape, p), area::bit_of(t));
+    area::put(area, places::timer(shape, p), alarm_at(now, t));
     let to = area::condition_at(shape, condition);
     let base = area::records_at(shape);
     moves::queue(area, base, to, p, 1)

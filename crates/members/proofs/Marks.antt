@@ -1,12 +1,12 @@
 -- Laws of the table: nobody is met in a clear one, and p met besides changes what it says of p alone, since a power of two has one bit. Assumes nothing.
 use Prim.Native.Nat.{ℕ, zero, suc, _+_, _-_, _*_, _/_, _%_, _^_, _<_}
-use native.Mathlib.Nat.{zero-div, div-self, div-eq-of-lt, div-eq-of-eq-mul-left, one-mul, pow-suc}
+use native.Mathlib.Nat.{zero-mul, zero-div, div-self, div-eq-of-lt, div-eq-of-eq-mul-left, one-mul, pow-suc}
 use native.Mathlib.Decide.{ℕ-discrete, decLt}
 use native.Mathlib.Omega.{arith}
-use mathlib.Core.Path.{_≡_, refl, ap, _∙_}
-use mathlib.Core.Bool.{true}
+use mathlib.Core.Path.{_≡_, refl, sym, ap, _∙_}
+use mathlib.Core.Bool.{true, not}
 use mathlib.Core.List.{List, [], _∷_}
-use lib.Bits.{bitOr, or-shr, or-mod, or-zero-r}
+use lib.Bits.{bitAnd, bitOr, and-high, or-add-and, or-shr, or-mod, or-zero-r}
 use lib.Dec.{eqb}
 use lib.Pow.{pow-pos, pow-lt, pow-add, shl-exact}
 use lib.ListN.{length, getD, replicate, length-set}
@@ -46,6 +46,24 @@ module _ (w b c : ℕ) (small : b < 64) where
 
   bit-there : (b ≡ c → ⊥) → bitOr w (1 * 2 ^ b % 2 ^ 64) / 2 ^ c % 2 ≡ w / 2 ^ c % 2
   bit-there n = or-bit ∙ rw (power-bit b c n) (or-zero-r (w / 2 ^ c % 2))
+
+-- a bit set besides is told by the change of its word
+module _ (w b : ℕ) where
+  alone : bitAnd w (2 ^ b) ≡ w / 2 ^ b % 2 * 2 ^ b
+  alone =
+      let one : 1 + b ≡ suc b = omega arith in
+      let s : 2 ^ (1 + b) ≡ 2 ^ b * 2 = ap (λ (x : ℕ). 2 ^ x) one ∙ pow-suc 2 b in
+      let e : 2 ^ (1 + b) - 2 ^ b ≡ 2 ^ b = omega arith in
+      ap (bitAnd w) (sym e) ∙ and-high w 1 b
+
+  pub told : b < 64 → not (eqb (bitOr w (1 * 2 ^ b % 2 ^ 64)) w) ≡ not (eqb (w / 2 ^ b % 2) 1)
+  told small =
+      rw (power w b b small)
+      (let s = or-add-and w (2 ^ b) in let a = alone in let h = pow-pos b in
+      elim (ℕ-discrete (w / 2 ^ b % 2) 1) [
+        | yes e ↦ let a′ : bitAnd w (2 ^ b) ≡ 2 ^ b = a ∙ (rw e (one-mul (2 ^ b))) in rw (eq-eqb (w / 2 ^ b % 2) 1 e, eq-eqb (bitOr w (2 ^ b)) w (omega arith))
+        | no n ↦ let z : w / 2 ^ b % 2 ≡ 0 = omega arith in let a′ : bitAnd w (2 ^ b) ≡ 0 = a ∙ rw (z, zero-mul) in rw (ne-eqb (w / 2 ^ b % 2) 1 n, ne-eqb (bitOr w (2 ^ b)) w (λ e. omega arith))
+      ])
 
 -- ---- the table
 

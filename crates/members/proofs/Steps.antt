@@ -1,72 +1,91 @@
 -- The walk step by step: what each way out of the code says of the functions of specs/, on values. Assumes nothing.
-use Prim.Native.Nat.{ℕ, zero, suc, _-_, _/_, _%_, _≤_, _<_}
-use native.Mathlib.Decide.{ℕ-discrete}
+use Prim.Native.Nat.{ℕ, zero, suc, _+_, _-_, _*_, _/_, _%_, _≤_, _<_}
+use native.Mathlib.Decide.{ℕ-discrete, decLt}
 use native.Mathlib.Omega.{arith}
-use mathlib.Core.Path.{_≡_, refl, sym, _∙_}
-use mathlib.Core.Bool.{Bool, true, false, not, and-false}
+use mathlib.Core.Path.{_≡_, refl}
+use mathlib.Core.Bool.{true, false, not, or-true, or-false, and-false}
 use mathlib.Core.List.{List, _∷_}
 use mathlib.Core.Option.{none, some}
-use lib.Bits.{bitAnd, and-mask}
+use lib.Bits.{bitAnd, bitOr, and-mask, or-add-and}
 use lib.Dec.{eqb, leb}
 use lib.ListN.{length}
 use borrow.Author.Tests.{lt-ltb, le-ltb, le-leb, lt-leb, eq-eqb, ne-eqb}
-use Rattle.model.specs.Queue.{member}
+use Rattle.model.specs.Queue.{inside}
+use Rattle.model.proofs.Tests.{and-split, inside-bounds}
 use Rattle.links.specs.Link.{next, priority}
 use Rattle.links.proofs.Links.{low-bits}
-use Rattle.members.specs.Walk.{isFresh, fitting, fitsIn, walked, ringed}
+use Rattle.members.specs.Walk.{isEligible, isFresh, isAsleep, fitting, fitsIn, walked, ringed}
 
--- ---- whether a process is fresh
+-- ---- whether a process is eligible
 
-module _ (P o p : ℕ) (js : List ℕ) where
-  pub fresh-none : p ≡ 0 → false ≡ isFresh P o p js
-  unfolding isFresh
-  fresh-none e = rw (eq-eqb p 0 e)
+module _ (P o p : ℕ) where
+  pub eligible-none : p ≡ 0 → false ≡ isEligible P o p
+  unfolding isEligible
+  eligible-none e = rw (eq-eqb p 0 e)
 
-  pub fresh-out : (p ≡ 0 → ⊥) → P < p → false ≡ isFresh P o p js
-  unfolding isFresh
-  fresh-out n l = rw (ne-eqb p 0 n, lt-ltb P p l)
+  pub eligible-out : (p ≡ 0 → ⊥) → P < p → false ≡ isEligible P o p
+  unfolding isEligible
+  eligible-out n l = rw (ne-eqb p 0 n, lt-ltb P p l)
 
-  pub fresh-held : (p ≡ 0 → ⊥) → p ≤ P → p ≡ o → false ≡ isFresh P o p js
-  unfolding isFresh
-  fresh-held n l e = rw (ne-eqb p 0 n, le-ltb P p l, eq-eqb p o e)
+  pub eligible-in : (p ≡ 0 → ⊥) → p ≤ P → not (eqb p o) ≡ isEligible P o p
+  unfolding isEligible
+  eligible-in n l = rw (ne-eqb p 0 n, le-ltb P p l)
 
-  pub fresh-met : (p ≡ 0 → ⊥) → p ≤ P → (p ≡ o → ⊥) → (b : Bool) → b ≡ member p js → not b ≡ isFresh P o p js
-  unfolding isFresh
-  fresh-met n l m b e = rw (ne-eqb p 0 n, le-ltb P p l, ne-eqb p o m, e)
+  pub eligible-bounds : isEligible P o p ≡ true → (1 ≤ p) × (p ≤ P)
+  unfolding isEligible
+  eligible-bounds e = inside-bounds P p (and-split (inside P p) _ e .0)
 
 -- ---- whether a record fits
 
-module _ (k b w f t : ℕ) where
-  pub fit-odd : (x : ℕ) → (k ≡ 2 → x ≡ 2) → ((k ≡ 2 → ⊥) → x ≡ 0) → (f ≡ x → ⊥) → false ≡ fitting k b w f t
-  unfolding fitting
-  fit-odd x y z n = elim (ℕ-discrete k 2) [
-    | yes e ↦ rw (eq-eqb k 2 e, ne-eqb f 2 (λ d. n (d ∙ sym (y e))), and-false (leb (w / 8192) b))
-    | no e ↦ rw (ne-eqb k 2 e, ne-eqb f 0 (λ d. n (d ∙ sym (z e))), and-false (leb (w / 8192) b))
+module _ (f t : ℕ) (small : f < 65536) where
+  pub asleep-alone : t * 65536 + f ≡ 2 → true ≡ isAsleep f t
+  unfolding isAsleep
+  asleep-alone e = rw (eq-eqb f 2 (omega arith), eq-eqb t 0 (omega arith), or-true)
+
+  pub asleep-armed : (t * 65536 + f ≡ 2 → ⊥) → eqb f 6 ≡ isAsleep f t
+  unfolding isAsleep
+  asleep-armed n = elim (ℕ-discrete f 2) [
+    | yes e ↦ rw (eq-eqb f 2 e, ne-eqb t 0 (λ z. n (omega arith)), or-false)
+    | no d ↦ rw (ne-eqb f 2 d, or-false)
   ]
 
-  pub fit-rises : b < w / 8192 → false ≡ fitting k b w f t
-  unfolding fitting
-  fit-rises h = rw (lt-leb (w / 8192) b h)
-
+module _ (k w f t : ℕ) where
   unnamed : bitAnd w 3 ≡ w % 4
   unnamed = and-mask w 2
 
-  module _ (h : w / 8192 ≤ b) where
-    pub fit-waits : k ≡ 2 → f ≡ 2 → eqb (bitAnd w 7) 0 ≡ fitting k b w f t
-    unfolding fitting
-    fit-waits e d = rw (low-bits w, le-leb (w / 8192) b h, eq-eqb k 2 e, eq-eqb f 2 d)
+  pub fit-awake : k ≡ 2 → isAsleep f t ≡ false → false ≡ fitting k w f t
+  unfolding fitting
+  fit-awake e d = rw (eq-eqb k 2 e, d)
 
-    pub fit-timed : (k ≡ 2 → ⊥) → f ≡ 0 → (t ≡ 0 → ⊥) → false ≡ fitting k b w f t
-    unfolding fitting
-    fit-timed e d n = rw (le-leb (w / 8192) b h, ne-eqb k 2 e, eq-eqb f 0 d, ne-eqb t 0 n)
+  pub fit-waits : k ≡ 2 → isAsleep f t ≡ true → eqb (bitAnd w 7) 0 ≡ fitting k w f t
+  unfolding fitting
+  fit-waits e d = rw (low-bits w, eq-eqb k 2 e, d)
 
-    pub fit-blocked : (k ≡ 2 → ⊥) → f ≡ 0 → t ≡ 0 → k ≡ 1 → eqb (bitAnd w 7) 4 ≡ fitting k b w f t
-    unfolding fitting
-    fit-blocked e d g l = rw (low-bits w, le-leb (w / 8192) b h, ne-eqb k 2 e, eq-eqb f 0 d, eq-eqb t 0 g, eq-eqb k 1 l)
+  pub fit-flagged : (k ≡ 2 → ⊥) → (f ≡ 0 → ⊥) → false ≡ fitting k w f t
+  unfolding fitting
+  fit-flagged e n = rw (ne-eqb k 2 e, ne-eqb f 0 n)
 
-    pub fit-plain : (k ≡ 2 → ⊥) → f ≡ 0 → t ≡ 0 → (k ≡ 1 → ⊥) → eqb (bitAnd w 3) 0 ≡ fitting k b w f t
-    unfolding fitting
-    fit-plain e d g l = rw (unnamed, le-leb (w / 8192) b h, ne-eqb k 2 e, eq-eqb f 0 d, eq-eqb t 0 g, ne-eqb k 1 l)
+  pub fit-timed : (k ≡ 2 → ⊥) → f ≡ 0 → (t ≡ 0 → ⊥) → false ≡ fitting k w f t
+  unfolding fitting
+  fit-timed e d n = rw (ne-eqb k 2 e, eq-eqb f 0 d, ne-eqb t 0 n)
+
+  pub fit-blocked : (k ≡ 2 → ⊥) → f ≡ 0 → t ≡ 0 → k ≡ 1 → eqb (bitAnd w 7) 4 ≡ fitting k w f t
+  unfolding fitting
+  fit-blocked e d g l = rw (low-bits w, ne-eqb k 2 e, eq-eqb f 0 d, eq-eqb t 0 g, eq-eqb k 1 l)
+
+  pub fit-plain : (k ≡ 2 → ⊥) → f ≡ 0 → t ≡ 0 → (k ≡ 1 → ⊥) → eqb (bitAnd w 3) 0 ≡ fitting k w f t
+  unfolding fitting
+  fit-plain e d g l = rw (unnamed, ne-eqb k 2 e, eq-eqb f 0 d, eq-eqb t 0 g, ne-eqb k 1 l)
+
+-- with all bits below its priority set, a link is the highest of that priority
+pub falls-by : (a w : ℕ) → leb w (bitOr a 8191) ≡ leb (w / 8192) (a / 8192)
+falls-by a w =
+    let s = or-add-and a 8191 in
+    let m : bitAnd a 8191 ≡ a % 8192 = and-mask a 13 in
+    elim (decLt (a / 8192) (w / 8192)) [
+      | yes l ↦ rw (lt-leb (w / 8192) (a / 8192) l, lt-leb w (bitOr a 8191) (omega arith))
+      | no l ↦ rw (le-leb (w / 8192) (a / 8192) (omega arith), le-leb w (bitOr a 8191) (omega arith))
+    ]
 
 -- ---- the walk
 

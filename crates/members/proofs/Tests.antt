@@ -3,13 +3,14 @@ use Prim.Native.Nat.{ℕ, _/_, _%_, _≤_}
 use native.Mathlib.Decide.{ℕ-discrete}
 use native.Mathlib.Omega.{arith}
 use mathlib.Core.Path.{_≡_}
-use mathlib.Core.Bool.{true, false, not, _&&_, cond}
+use mathlib.Core.Logic.{_⊎_, inl, inr}
+use mathlib.Core.Bool.{true, false, not, _&&_, and-true}
 use mathlib.Core.List.{List}
 use lib.Dec.{eqb, leb}
 use borrow.Author.Tests.{le-leb, eq-eqb, ne-eqb, leb-true, eqb-true, eqb-false}
 use Rattle.model.specs.Queue.{inside, member}
 use Rattle.model.proofs.Tests.{and-split, not-true}
-use Rattle.members.specs.Walk.{isFresh, fitting}
+use Rattle.members.specs.Walk.{isEligible, isFresh, isAsleep, fitting}
 
 -- a fresh process
 pub record Fresh (P o p : ℕ) (js : List ℕ) : Type 0 where
@@ -18,49 +19,66 @@ pub record Fresh (P o p : ℕ) (js : List ℕ) : Type 0 where
   pub new : member p js ≡ false
 
 pub fresh-is : (P o p : ℕ) (js : List ℕ) → isFresh P o p js ≡ true → Fresh P o p js
-unfolding isFresh
+unfolding isFresh isEligible
 fresh-is P o p js e =
-    let a = and-split (inside P p) _ e in
-    let b = and-split (not (eqb p o)) (not (member p js)) (a .1) in
-    record { within = a .0; free = eqb-false p o (not-true (eqb p o) (b .0)); new = not-true (member p js) (b .1) }
+    let a = and-split (isEligible P o p) (not (member p js)) e in
+    let b = and-split (inside P p) (not (eqb p o)) (a .0) in
+    record { within = b .0; free = eqb-false p o (not-true (eqb p o) (b .1)); new = not-true (member p js) (a .1) }
 
 pub is-fresh : (P o p : ℕ) (js : List ℕ) → Fresh P o p js → isFresh P o p js ≡ true
-unfolding isFresh
+unfolding isFresh isEligible
 is-fresh P o p js f = rw (f .within, ne-eqb p o (f .free), f .new)
+
+-- flags and timer in a condition: armed, or not and then without a timer
+abbrev pub Asleep : ℕ → ℕ → Type 0
+Asleep f t = (f ≡ 6) ⊎ ((f ≡ 2) × (t ≡ 0))
+
+asleep-is : (f t : ℕ) → isAsleep f t ≡ true → Asleep f t
+unfolding isAsleep
+asleep-is f t e = go (ℕ-discrete f 6)
+  where
+    go : Dec (f ≡ 6) → Asleep f t
+    go (yes d) = inl d
+    go (no n) = let a = and-split (eqb f 2) (eqb t 0) (rw (ne-eqb f 6 n) at e) in inr (eqb-true f 2 (a .0), eqb-true t 0 (a .1))
+
+is-asleep : (f t : ℕ) → Asleep f t → isAsleep f t ≡ true
+unfolding isAsleep
+is-asleep f t (inl d) = rw (eq-eqb f 6 d)
+is-asleep f t (inr d) = rw (d .0, d .1)
 
 -- a record that fits a queue of kind k: link w, flags f, timer t
 pub record Fits (k w f t : ℕ) : Type 0 where
-  pub waits : k ≡ 2 → (f ≡ 2) × (w % 8 ≡ 0)
+  pub waits : k ≡ 2 → Asleep f t × (w % 8 ≡ 0)
   pub idle : (k ≡ 2 → ⊥) → (f ≡ 0) × (t ≡ 0) × (w % 4 ≡ 0)
   pub blocked : k ≡ 1 → w % 8 ≡ 4
 
-pub fitting-is : (k b w f t : ℕ) → fitting k b w f t ≡ true → (w / 8192 ≤ b) × Fits k w f t
+pub fitting-is : (k b w f t : ℕ) → (fitting k w f t && leb (w / 8192) b) ≡ true → (w / 8192 ≤ b) × Fits k w f t
 unfolding fitting
-fitting-is k b w f t e = (leb-true (w / 8192) b (s .0), go (ℕ-discrete k 2) (ℕ-discrete k 1))
+fitting-is k b w f t e = (leb-true (w / 8192) b (s .1), go (ℕ-discrete k 2) (ℕ-discrete k 1))
   where
-    s : (leb (w / 8192) b ≡ true) × (cond (eqb k 2) (eqb f 2 && eqb (w % 8) 0) (eqb f 0 && (eqb t 0 && cond (eqb k 1) (eqb (w % 8) 4) (eqb (w % 4) 0))) ≡ true)
-    s = and-split (leb (w / 8192) b) _ e
+    s : (fitting k w f t ≡ true) × (leb (w / 8192) b ≡ true)
+    s = and-split (fitting k w f t) (leb (w / 8192) b) e
 
     go : Dec (k ≡ 2) → Dec (k ≡ 1) → Fits k w f t
     go (yes d) x =
-        let a = and-split (eqb f 2) (eqb (w % 8) 0) (rw (eq-eqb k 2 d) at (s .1)) in
-        record { waits = λ z. (eqb-true f 2 (a .0), eqb-true (w % 8) 0 (a .1)); idle = λ n. absurd (n d); blocked = λ z. absurd (omega arith) }
+        let a = and-split (isAsleep f t) (eqb (w % 8) 0) (rw (eq-eqb k 2 d) at (s .0)) in
+        record { waits = λ z. (asleep-is f t (a .0), eqb-true (w % 8) 0 (a .1)); idle = λ n. absurd (n d); blocked = λ z. absurd (omega arith) }
     go (no n) (yes d) =
-        let a = and-split (eqb f 0) _ (rw (ne-eqb k 2 n) at (s .1)) in
+        let a = and-split (eqb f 0) _ (rw (ne-eqb k 2 n) at (s .0)) in
         let c = and-split (eqb t 0) _ (a .1) in
         let l = eqb-true (w % 8) 4 (rw (eq-eqb k 1 d) at (c .1)) in
         record { waits = λ z. absurd (n z); idle = λ z. (eqb-true f 0 (a .0), eqb-true t 0 (c .0), omega arith); blocked = λ z. l }
     go (no n) (no m) =
-        let a = and-split (eqb f 0) _ (rw (ne-eqb k 2 n) at (s .1)) in
+        let a = and-split (eqb f 0) _ (rw (ne-eqb k 2 n) at (s .0)) in
         let c = and-split (eqb t 0) _ (a .1) in
         let l = eqb-true (w % 4) 0 (rw (ne-eqb k 1 m) at (c .1)) in
         record { waits = λ z. absurd (n z); idle = λ z. (eqb-true f 0 (a .0), eqb-true t 0 (c .0), l); blocked = λ z. absurd (m z) }
 
-pub is-fitting : (k b w f t : ℕ) → w / 8192 ≤ b → Fits k w f t → fitting k b w f t ≡ true
+pub is-fitting : (k b w f t : ℕ) → w / 8192 ≤ b → Fits k w f t → (fitting k w f t && leb (w / 8192) b) ≡ true
 unfolding fitting
-is-fitting k b w f t h x = rw (le-leb (w / 8192) b h) (go (ℕ-discrete k 2) (ℕ-discrete k 1))
+is-fitting k b w f t h x = rw (le-leb (w / 8192) b h, and-true, go (ℕ-discrete k 2) (ℕ-discrete k 1))
   where
-    go : Dec (k ≡ 2) → Dec (k ≡ 1) → cond (eqb k 2) (eqb f 2 && eqb (w % 8) 0) (eqb f 0 && (eqb t 0 && cond (eqb k 1) (eqb (w % 8) 4) (eqb (w % 4) 0))) ≡ true
-    go (yes d) y = rw (eq-eqb k 2 d, eq-eqb f 2 (x .waits d .0), eq-eqb (w % 8) 0 (x .waits d .1))
+    go : Dec (k ≡ 2) → Dec (k ≡ 1) → fitting k w f t ≡ true
+    go (yes d) y = rw (eq-eqb k 2 d, is-asleep f t (x .waits d .0), eq-eqb (w % 8) 0 (x .waits d .1))
     go (no n) (yes d) = rw (ne-eqb k 2 n, eq-eqb f 0 (x .idle n .0), eq-eqb t 0 (x .idle n .1), eq-eqb k 1 d, eq-eqb (w % 8) 4 (x .blocked d))
     go (no n) (no m) = rw (ne-eqb k 2 n, eq-eqb f 0 (x .idle n .0), eq-eqb t 0 (x .idle n .1), ne-eqb k 1 m, eq-eqb (w % 4) 0 (x .idle n .2))

@@ -1,14 +1,17 @@
 -- A ring's walk underway: what is left of it ends as the whole ring does; and what each way out of the loop makes of that. Assumes nothing.
-use Prim.Native.Nat.{ℕ, _+_, _-_, _≤_, _<_}
+use Prim.Native.Nat.{ℕ, _+_, _-_, _/_, _≤_, _<_}
 use native.Mathlib.Omega.{arith}
 use mathlib.Core.Path.{_≡_, refl, sym, _∙_, subst}
-use mathlib.Core.Bool.{Bool, true, false, not}
+use mathlib.Core.Bool.{Bool, true, false, not, _&&_, and-false, Bool·not-not}
 use mathlib.Core.List.{List, _∷_}
 use mathlib.Core.Option.{Option, none, some}
+use lib.Dec.{leb}
+use lib.ListN.{getD}
 use borrow.Author.Tests.{not-true, not-false}
-use Rattle.links.specs.Link.{next, priority}
-use Rattle.members.specs.Marks.{marked, Table}
-use Rattle.members.specs.Walk.{isFresh, fitsIn, walked, ringed, Met, Told}
+use Rattle.model.specs.Queue.{member}
+use Rattle.links.specs.Link.{slot, link, next, priority}
+use Rattle.members.specs.Marks.{metIn, marked}
+use Rattle.members.specs.Walk.{isEligible, isFresh, fitting, fitsIn, walked, ringed, Met, Told}
 use Rattle.members.proofs.Marks.{table-marked}
 use Rattle.members.proofs.Steps.{walk-out, walk-stale, walk-unfit, walk-last, walk-on, ring-empty, ring-walk}
 
@@ -35,28 +38,47 @@ module _ (rs : List ℕ) (P k o t : ℕ) where
     pub going-out : (ms′ : List ℕ) → P ≤ m → Told P 1024 ms′ out
     going-out ms′ l = told-none P ms′ out (g .rest ∙ walk-out rs P k o t (P - m) p b (g .js) (omega arith))
 
-    module _ (new : Bool) (is-new : (js : List ℕ) → Table ms js → new ≡ isFresh P o p js) where
-      pub going-stale : (ms′ : List ℕ) → not new ≡ true → Told P 1024 ms′ out
-      going-stale ms′ e = told-none P ms′ out (g .rest ∙ walk-stale rs P k o t (P - m) p b (g .js) (sym (is-new (g .js) (g .met .table)) ∙ not-true new e))
+    module _ (may : Bool) (is-may : may ≡ isEligible P o p) where
+      stale : isEligible P o p && not (member p (g .js)) ≡ false → (ms′ : List ℕ) → Told P 1024 ms′ out
+      unfolding isFresh
+      stale e ms′ = told-none P ms′ out (g .rest ∙ walk-stale rs P k o t (P - m) p b (g .js) e)
 
-      module _ (fit : Bool) (is-fit : fit ≡ fitsIn rs k b p) where
+      pub going-barred : (ms′ : List ℕ) → not may ≡ true → Told P 1024 ms′ out
+      going-barred ms′ e = stale (rw (← is-may, not-true may e)) ms′
+
+      module _ (fit : Bool) (is-fit : fit ≡ fitting k (link rs p) (getD rs (slot p + 1) 0) (getD rs (slot p + 2) 0)) where
+        unfit : fitsIn rs k b p ≡ false → (ms′ : List ℕ) → Told P 1024 ms′ out
+        unfit e ms′ = told-none P ms′ out (g .rest ∙ walk-unfit rs P k o t (P - m) p b (g .js) e)
+
         pub going-unfit : (ms′ : List ℕ) → not fit ≡ true → Told P 1024 ms′ out
-        going-unfit ms′ e = told-none P ms′ out (g .rest ∙ walk-unfit rs P k o t (P - m) p b (g .js) (sym is-fit ∙ not-true fit e))
+        going-unfit ms′ e = unfit (rw (← is-fit, not-true fit e)) ms′
 
-        module _ (f₁ : not new ≡ false) (f₂ : not fit ≡ false) (below : m < P) (small : p < 1024) (ms′ : List ℕ) (after : ms′ ≡ marked ms p) where
-          fresh : isFresh P o p (g .js) ≡ true
-          fresh = sym (is-new (g .js) (g .met .table)) ∙ not-false new f₁
+        module _ (low : Bool) (is-low : low ≡ leb (link rs p / 8192) b) where
+          pub going-rises : (ms′ : List ℕ) → not low ≡ true → Told P 1024 ms′ out
+          going-rises ms′ e = unfit (rw (← is-low, not-true low e, and-false)) ms′
 
-          fits : fitsIn rs k b p ≡ true
-          fits = sym is-fit ∙ not-false fit f₂
+          module _ (new : Bool) (small : p < 1024) (is-new : new ≡ not (metIn ms p)) where
+            old : not new ≡ member p (g .js)
+            old = rw (is-new, Bool·not-not) (g .met .table .says p small)
 
-          more : Met P ms′ (p ∷ g .js) (m + 1)
-          more = let c = g .met .counts in record { table = rw after (table-marked ms (g .js) p small (g .met .table)); counts = omega arith; few = omega arith }
+            pub going-met : (ms′ : List ℕ) → not new ≡ true → Told P 1024 ms′ out
+            going-met ms′ e = stale (rw (← old, e, and-false)) ms′
 
-          pub going-last : p ≡ t → Told P (m + 1) ms′ out
-          going-last e =
-              told-some P (m + 1) ms′ (p ∷ g .js) out (g .rest ∙ walk-last rs P k o t (P - m) p b (g .js) (omega arith) fresh fits e) more
+            module _ (e₁ : not may ≡ false) (e₂ : not fit ≡ false) (e₃ : not low ≡ false) (e₄ : not new ≡ false) (below : m < P) (ms′ : List ℕ) (after : ms′ ≡ marked ms p) where
+              fresh : isFresh P o p (g .js) ≡ true
+              unfolding isFresh
+              fresh = rw (← is-may, not-false may e₁, ← old, e₄)
 
-          pub going-on : (q a : ℕ) → (p ≡ t → ⊥) → q ≡ next rs p → a ≡ priority rs p → Going rs P k o t ms′ q a (m + 1) out
-          going-on q a n e d =
-              record { js = p ∷ g .js; met = more; rest = rw (e, d) (g .rest ∙ walk-on rs P k o t (P - m) (P - (m + 1)) p b (g .js) (omega arith) fresh fits n) }
+              fits : fitsIn rs k b p ≡ true
+              fits = rw (← is-fit, not-false fit e₂, ← is-low, not-false low e₃)
+
+              more : Met P ms′ (p ∷ g .js) (m + 1)
+              more = let c = g .met .counts in record { table = rw after (table-marked ms (g .js) p small (g .met .table)); counts = omega arith; few = omega arith }
+
+              pub going-last : p ≡ t → Told P (m + 1) ms′ out
+              going-last e =
+                  told-some P (m + 1) ms′ (p ∷ g .js) out (g .rest ∙ walk-last rs P k o t (P - m) p b (g .js) (omega arith) fresh fits e) more
+
+              pub going-on : (q a : ℕ) → (p ≡ t → ⊥) → q ≡ next rs p → a ≡ priority rs p → Going rs P k o t ms′ q a (m + 1) out
+              going-on q a n e d =
+                  record { js = p ∷ g .js; met = more; rest = rw (e, d) (g .rest ∙ walk-on rs P k o t (P - m) (P - (m + 1)) p b (g .js) (omega arith) fresh fits n) }

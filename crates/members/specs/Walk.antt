@@ -1,8 +1,8 @@
--- The walk of a ring as a function on the records, with the tests that the code has, in its order. What it hands on are the processes met, the
+-- The walk of a ring as a function on the records, with the tests that the code has. What it hands on are the processes met, the
 -- last one first; none where a test fails. The kind of the ring's queue is a number: 0 ready and the parks, 1 the locks, 2 the conditions. Assumes nothing.
 use Prim.Native.Nat.{ℕ, zero, suc, _+_, _-_, _/_, _%_, _≤_}
 use mathlib.Core.Path.{_≡_}
-use mathlib.Core.Bool.{Bool, not, _&&_, cond}
+use mathlib.Core.Bool.{Bool, not, _&&_, _||_, cond}
 use mathlib.Core.List.{List, _∷_}
 use mathlib.Core.Option.{Option, none, some}
 use lib.Dec.{eqb, leb}
@@ -11,20 +11,25 @@ use Rattle.model.specs.Queue.{inside, member}
 use Rattle.links.specs.Link.{slot, link, next, priority}
 use Rattle.members.specs.Marks.{Table}
 
--- p is a process, not the holder o, and not yet met
+-- p is a process, and not the holder o
+unfoldable pub isEligible : ℕ → ℕ → ℕ → Bool
+isEligible P o p = inside P p && not (eqb p o)
+
+-- p is eligible, and not yet met
 unfoldable pub isFresh : ℕ → ℕ → ℕ → List ℕ → Bool
-isFresh P o p js = inside P p && (not (eqb p o) && not (member p js))
+isFresh P o p js = isEligible P o p && not (member p js)
 
--- a record fits a queue of kind k, behind a process of priority b: its link w, its flags f, its timer t
-unfoldable pub fitting : ℕ → ℕ → ℕ → ℕ → ℕ → Bool
-fitting k b w f t =
-    leb (w / 8192) b
-    && cond (eqb k 2) (eqb f 2 && eqb (w % 8) 0)
-    (eqb f 0 && (eqb t 0 && cond (eqb k 1) (eqb (w % 8) 4) (eqb (w % 4) 0)))
+-- the flags f and the timer t of a process in a condition: waiting and armed, or waiting alone and no timer
+unfoldable pub isAsleep : ℕ → ℕ → Bool
+isAsleep f t = eqb f 6 || (eqb f 2 && eqb t 0)
 
--- p's record fits
+-- a record fits a queue of kind k: its link w, its flags f, its timer t
+unfoldable pub fitting : ℕ → ℕ → ℕ → ℕ → Bool
+fitting k w f t = cond (eqb k 2) (isAsleep f t && eqb (w % 8) 0) (eqb f 0 && (eqb t 0 && cond (eqb k 1) (eqb (w % 8) 4) (eqb (w % 4) 0)))
+
+-- p's record fits, behind a process of priority b
 abbrev pub fitsIn : List ℕ → ℕ → ℕ → ℕ → Bool
-fitsIn rs k b p = fitting k b (link rs p) (getD rs (slot p + 1) 0) (getD rs (slot p + 2) 0)
+fitsIn rs k b p = fitting k (link rs p) (getD rs (slot p + 1) 0) (getD rs (slot p + 2) 0) && leb (link rs p / 8192) b
 
 -- from p on to the tail t, at most n processes, behind a priority b
 unfoldable pub walked : List ℕ → ℕ → ℕ → ℕ → ℕ → ℕ → ℕ → ℕ → List ℕ → Option (List ℕ)

@@ -1,49 +1,44 @@
 // The members of one ring: the ring is walked from its first to its tail, and each process marked as it is met. Assumes nothing.
 use area::layout;
 ghost use mathlib.Core.Path.{_≡_};
-ghost use mathlib.Core.Bool.{true};
+ghost use mathlib.Core.Bool.{not};
 ghost use mathlib.Core.List.{List};
-ghost use Prim.Native.Nat.{ℕ, _*_, _≤_, _<_};
+ghost use Prim.Native.Nat.{ℕ, _*_, _/_, _≤_, _<_};
+ghost use lib.Dec.{leb};
 ghost use lib.ListN.{length};
-ghost use Rattle.members.specs.Marks.{metIn, marked, Table};
-ghost use Rattle.members.specs.Walk.{isFresh, fitting, ringed, Met, Told};
+ghost use Rattle.members.specs.Marks.{metIn, marked};
+ghost use Rattle.members.specs.Walk.{isEligible, isAsleep, fitting, ringed, Met, Told};
 
 // A word of the table has 64 bits: the number of a bit has six.
 const SHIFT: usize = 6;
 
 const MASK: usize = 63;
 
+// A word of the area has a number below this.
+const WORD: u32 = 65536;
+
 // The answer where a ring is broken, above every number of processes.
 pub const BROKEN: usize = 1024;
 
 // ---- the processes met so far, a bit for each
 
-// Whether p is met.
-fn met(marks: &[u64; 16], p: usize) -> bool
+// p is now met. Whether it was not before.
+fn mark(marks: &mut [u64; 16], p: usize) -> bool
     requires { ⌜ p < 1024 ⌝ }
-    ensures { λ r. ⌜ r ≡ metIn (now (marks .entry)) p ⌝ }
-{
-    let i = p >> SHIFT;
-    let bits = marks[i] >> (p & MASK);
-    bits & 1 == 1
-}
-
-// p is now met.
-fn mark(marks: &mut [u64; 16], p: usize)
-    requires { ⌜ p < 1024 ⌝ }
-    ensures { λ _. ⌜ now (marks .exit) ≡ marked (now (marks .entry)) p ⌝ }
+    ensures { λ r. ⌜ (now (marks .exit) ≡ marked (now (marks .entry)) p) × (r ≡ not (metIn (now (marks .entry)) p)) ⌝ }
 {
     let i = p >> SHIFT;
     let bits = marks[i];
-    marks[i] = bits | (1 << (p & MASK));
+    let more = bits | (1 << (p & MASK));
+    marks[i] = more;
+    more != bits
 }
 
 // ---- one ring
 
-// Whether p can stand next in a ring: a process, not the holder of the ring's lock, and not met yet.
-fn fresh(processes: usize, holder: usize, p: usize, marks: &[u64; 16]) -> bool
-    requires { ⌜ processes < 1024 ⌝ }
-    ensures { λ r. ⌜ (r ≡ true → (1 ≤ p) × (p ≤ processes)) × ((js : List ℕ) → Table (now (marks .entry)) js → r ≡ isFresh processes holder p js) ⌝ }
+// Whether p may stand in a ring: a process, and not the holder of the ring's lock.
+fn eligible(processes: usize, holder: usize, p: usize) -> bool
+    ensures { λ r. ⌜ r ≡ isEligible processes holder p ⌝ }
 {
     if p == 0 {
         return false;
@@ -51,34 +46,31 @@ fn fresh(processes: usize, holder: usize, p: usize, marks: &[u64; 16]) -> bool
     if processes < p {
         return false;
     }
-    if p == holder {
-        return false;
-    }
-    !met(marks, p)
+    p != holder
 }
 
-// The flags of a process in a queue of this kind.
-fn flags_of(kind: u16) -> u16
-    ensures { λ r. ⌜ (kind ≡ 2 → r ≡ 2) × ((kind ≡ 2 → ⊥) → r ≡ 0) ⌝ }
+// Whether a process in a condition may have these flags and this timer: it waits, and has a timer only if it is armed. The two words are asked as one number first, which a compiler reads at once.
+fn asleep(flags: u16, timer: u16) -> bool
+    ensures { λ r. ⌜ r ≡ isAsleep flags timer ⌝ }
 {
-    if kind == heads::CONDITION {
-        return layout::WAITING;
+    if timer as u32 * WORD + flags as u32 == layout::WAITING as u32 {
+        return true;
     }
-    0
+    flags == layout::WAITING + links::ARMED
 }
 
-// Whether a record fits a queue of this kind, behind a process of priority `above`.
-fn fits(kind: u16, above: u16, link: u16, flags: u16, timer: u16) -> bool
-    ensures { λ r. ⌜ r ≡ fitting kind above link flags timer ⌝ }
+// Whether a record fits a queue of this kind.
+fn fits(kind: u16, link: u16, flags: u16, timer: u16) -> bool
+    ensures { λ r. ⌜ r ≡ fitting kind link flags timer ⌝ }
 {
-    if flags != flags_of(kind) {
-        return false;
-    }
-    if above < links::priority_field(link) {
-        return false;
-    }
     if kind == heads::CONDITION {
+        if !asleep(flags, timer) {
+            return false;
+        }
         return link & links::LOW == 0;
+    }
+    if flags != 0 {
+        return false;
     }
     if timer != 0 {
         return false;
@@ -87,6 +79,13 @@ fn fits(kind: u16, above: u16, link: u16, flags: u16, timer: u16) -> bool
         return link & links::LOW == layout::FAILED;
     }
     link & layout::UNNAMED == 0
+}
+
+// Whether the priority in a link is not above that in the link before it. With all bits set below the latter, the words compare as they stand.
+fn falls(before: u16, link: u16) -> bool
+    ensures { λ r. ⌜ r ≡ leb (link / 8192) (before / 8192) ⌝ }
+{
+    link <= before | (links::PRIORITY - 1)
 }
 
 // Walks the ring of `tail` from its first and marks each process that it meets. The answer is how many are met by then, BROKEN if it is no such ring.
@@ -107,29 +106,33 @@ pub fn walk(
     }
     let last = (tail - 1) * links::RECORD;
     let mut p = links::next_field(records[last]) as usize;
-    let mut above = layout::HIGHEST;
+    let mut before = layout::HIGHEST * links::PRIORITY;
     let mut found = count;
     while found < processes {
-        if !fresh(processes, holder, p, marks) {
+        if !eligible(processes, holder, p) {
             return BROKEN;
         }
         let at = (p - 1) * links::RECORD;
         let link = records[at];
         if !fits(
             kind,
-            above,
             link,
-            records[at + layout::FLAGS],
-            records[at + layout::TIMER],
+            records[at + links::FLAGS],
+            records[at + links::TIMER],
         ) {
             return BROKEN;
         }
-        mark(marks, p);
+        if !falls(before, link) {
+            return BROKEN;
+        }
+        if !mark(marks, p) {
+            return BROKEN;
+        }
         found += 1;
         if p == tail {
             return found;
         }
-        above = links::priority_field(link);
+        before = link;
         p = links::next_field(link) as usize;
     }
     BROKEN

@@ -11,17 +11,17 @@ use Rattle.model.specs.declared.Shape.{Shape}
 use Rattle.model.specs.declared.Call.{Call}
 use Rattle.model.specs.declared.Call.the-variants.{Enter, Exit, Wait, Notify, Broadcast, Naked, Requeue, SetPriority, Tick}
 use Rattle.model.specs.declared.Answer.{Answer}
-use Rattle.model.specs.Queue.{Queue, Note, inside, outside, upTo, same, exists, member, first, firstOnly, toReady, Falling}
+use Rattle.model.specs.Queue.{Queue, Note, inside, outside, bit, upTo, same, exists, member, first, firstOnly, toReady, Falling}
 use Rattle.model.specs.Queue.Queue.{ready, park, lock, condition}
 use Rattle.model.specs.Field.{Field, Fields, put, some, priorities}
-use Rattle.model.specs.Field.Field.{clock, running, priority, timer, failed, holder, wakeup}
-use Rattle.model.specs.Rules.{Effect, decide, nakedly, released, calm, alarm, readyOrPark, due, counted, anyAbove, startCode, fresh}
+use Rattle.model.specs.Field.Field.{clock, running, priority, armed, timer, failed, holder, wakeup}
+use Rattle.model.specs.Rules.{Effect, decide, nakedly, released, calm, alarm, arm, readyOrPark, rings, due, counted, anyAbove, startCode, fresh}
 use Rattle.model.specs.Rules.Effect.{refuse, accept}
 use Rattle.model.specs.Machine.{State, model, moves, dispatch, retry, arrivals, ahead, finish, obey, step, after, start}
-use Rattle.model.specs.Valid.{room, Valid}
+use Rattle.model.specs.Valid.{room, Placed, Valid}
 use Rattle.model.proofs.Tests.{holds, fails, so, not-so, stops, EqCase, eqb-case, eqb-yes, LeCase, leb-case, same-case, put-here, or-split, not-false, not-below, bit-small, inside-bounds, bounds-inside, outside-inside}
 use Rattle.model.proofs.Lists.{member-here, member-there, first-there, first-member, firstOnly-member, filter-member, upTo-member, filter-length, all-append}
-use Rattle.model.proofs.Fields.{calm-timer, dispatch-priorities, dispatch-running}
+use Rattle.model.proofs.Fields.{armed-cleared, calm-clears, dispatch-priorities, dispatch-running}
 use Rattle.model.proofs.Accepted.{Accepted, accepted, Marked, when-by, choose-by, nakedly-by, of-refuse, decide-marks}
 use Rattle.model.proofs.Simulation.{Bounded, Ranked, decide-keeps}
 use Rattle.model.proofs.Places.{sent, relocate, relocate-append, arrivals-few, arrivals-append, ahead-few, Stands, Movers, stands-moves, member-is, stands-at, queue-length, falling-all, falling-moves, stands-start}
@@ -59,12 +59,19 @@ low-by P k a b = go (eqb k 0)
     go false = b
 
 alarm-small : (now t : ℕ) → alarm now t < 65536
-alarm-small now t = go (eqb t 0) (eqb ((now + t) % 65536) 0)
+alarm-small now t = go (eqb t 0)
   where
-    go : (a b : Bool) → cond a 0 (cond b 1 ((now + t) % 65536)) < 65536
-    go true b = omega arith
-    go false true = omega arith
-    go false false = omega arith
+    go : (b : Bool) → cond b 0 ((now + t) % 65536) < 65536
+    go true = omega arith
+    go false = omega arith
+
+-- without armed there is no timer
+alarm-none : (now t : ℕ) → bit (some t) ≡ 0 → alarm now t ≡ 0
+alarm-none now t = go (eqb t 0)
+  where
+    go : (b : Bool) → bit (not b) ≡ 0 → cond b 0 ((now + t) % 65536) ≡ 0
+    go true e = refl
+    go false e = let w : ⊥ = omega arith in absurd w
 
 -- ---- each call, before dispatch
 
@@ -82,11 +89,11 @@ module _ (n : Shape) (s : Fields) (qs : Queue → List ℕ) (v : Valid n record 
   standing p q e = stands-at (n .processes) qs (v .placed .place) (v .placed .once) p q e
 
   -- a member of a queue has what fits there
-  fit : (p : ℕ) (q : Queue) → member p (qs q) ≡ true → Fits q (s (timer p)) (s (failed p))
+  fit : (p : ℕ) (q : Queue) → member p (qs q) ≡ true → Fits q (s (armed p)) (s (failed p))
   fit p q e = let k = standing p q e in rw (k .1) at (good .fits p (k .0))
 
   -- who runs stands in ready
-  runner : eqb (s running) 0 ≡ false → member (s running) (qs ready) ≡ true
+  pub runner : eqb (s running) 0 ≡ false → member (s running) (qs ready) ≡ true
   runner r = rw (v .runs) (first-member (qs ready) (rw (v .runs) at (not-so (eqb-case (s running) 0) r)))
 
   -- nobody comes
@@ -105,7 +112,7 @@ module _ (n : Shape) (s : Fields) (qs : Queue → List ℕ) (v : Valid n record 
   waking : (g : Fields) (k : ℕ) (ps : List ℕ) → Good n g (v .placed .place) → ((p : ℕ) → member p ps ≡ true → inside (n .processes) p ≡ true) → length ps ≤ n .processes
       → Fine n (v .placed .place) (calm ps g) (toReady ps) k
   waking g k ps h i l = record {
-    good = good-ready n (calm ps g) ps (v .placed .place) (good-calm n ps g (v .placed .place) h) (λ p e. calm-timer p ps g e);
+    good = good-ready n (calm ps g) ps (v .placed .place) (good-calm n ps g (v .placed .place) h) (λ p e. calm-clears armed-cleared p ps g e);
     movers = movers-ready (n .processes) ps i;
     few = λ rs. let a = arrivals-few rs ps in omega arith;
   }
@@ -155,32 +162,35 @@ module _ (n : Shape) (s : Fields) (qs : Queue → List ℕ) (v : Valid n record 
 
   -- the wait goes on in the condition
   sleeps : (l c t : ℕ) → eqb (s running) 0 ≡ false → inside (n .conditions) c ≡ true → some (s (wakeup c)) ≡ false
-      → Fine n (v .placed .place) (put (timer (s running)) (alarm (s clock) t) (put (holder l) 0 s)) (released qs l ++ ((s running, condition c) ∷ [])) 1
+      → Fine n (v .placed .place) (arm (s running) t (put (holder l) 0 s)) (released qs l ++ ((s running, condition c) ∷ [])) 1
   sleeps l c t r i e =
       let k = leaving l in
       let x = s running in
       let there = relocate (v .placed .place) (released qs l) in
       record {
         good = rw (relocate-append (released qs l) ((x, condition c) ∷ []) (v .placed .place))
-            (good-put n (put (holder l) 0 s) (sent there (x, condition c)) (timer x) (alarm (s clock) t)
+            (good-put n (put (armed x) (bit (some t)) (put (holder l) 0 s)) (sent there (x, condition c)) (timer x) (alarm (s clock) t)
+            (good-put n (put (holder l) 0 s) (sent there (x, condition c)) (armed x) (bit (some t))
             (good-move n (put (holder l) 0 s) there x (condition c) (k .good) i (v .steady) (λ j z. refl)
             (λ d z. stops (same-case (condition c) (condition d)) (λ y. let w : _≡_ {A = Bool} true false = cc in true≢false w)))
+            (let b = bit-small (some t) in rw ((standing x ready (runner r)) .0) (omega arith))
+            ((λ z. rw (eqb-yes x x refl) (v .steady)), (λ z. good .timers x (fit x ready (runner r)))))
             (rw ((standing x ready (runner r)) .0) (alarm-small (s clock) t))
-            (λ z. rw (eqb-yes x x refl) (v .steady)));
+            (λ z. alarm-none (s clock) t (sym (put-here (armed x) (bit (some t)) (put (holder l) 0 s)) ∙ z)));
         movers = all-append (λ m. inside (n .processes) (m .0) ≡ true) (released qs l) ((x, condition c) ∷ []) (k .movers) ((standing x ready (runner r)) .0, tt);
         few = λ rs. let a = k .few rs in let b = arrivals-append rs (released qs l) ((x, condition c) ∷ []) in omega arith;
       }
 
   -- the wakeup is set over an empty queue
-  rings : (c : ℕ) → inside (n .conditions) c ≡ true → qs (condition c) ≡ [] → Good n (put (wakeup c) 1 s) (v .placed .place)
-  rings c i e = good-put n s (v .placed .place) (wakeup c) 1 good (rw i (omega arith))
+  sets : (c : ℕ) → inside (n .conditions) c ≡ true → qs (condition c) ≡ [] → Good n (put (wakeup c) 1 s) (v .placed .place)
+  sets c i e = good-put n s (v .placed .place) (wakeup c) 1 good (rw i (omega arith))
       (λ z p j. let w : false ≡ true && same (v .placed .place p) (condition c) = rw (e, j) at (member-is (n .processes) qs (v .placed .place) (v .placed .once) p (condition c)) in sym w)
 
-  -- from ready or a park to ready or a park: the timer is 0 in both
+  -- from ready or a park to ready or a park: nobody is armed in either
   requeues : (a b p : ℕ) → b ≤ n .parks → member p (qs (readyOrPark a)) ≡ true → Good n s (sent (v .placed .place) (p, readyOrPark b))
   requeues a b p h e =
-      let t = low-by (λ q. Fits q (s (timer p)) (s (failed p)) → s (timer p) ≡ 0) a (λ z. z) (λ z. z) (fit p (readyOrPark a) e) in
-      good-move n s (v .placed .place) p (readyOrPark b) good (low-exists n b h) (low-by (λ q. Fits q (s (timer p)) (s (failed p))) b t t)
+      let t = low-by (λ q. Fits q (s (armed p)) (s (failed p)) → s (armed p) ≡ 0) a (λ z. z) (λ z. z) (fit p (readyOrPark a) e) in
+      good-move n s (v .placed .place) p (readyOrPark b) good (low-exists n b h) (low-by (λ q. Fits q (s (armed p)) (s (failed p))) b t t)
       (λ l z. low-by (λ q. same q (lock l) ≡ false) b refl refl) (λ c z. low-by (λ q. same q (condition c) ≡ false) b refl refl)
 
   -- the running process takes a priority and moves
@@ -194,10 +204,10 @@ module _ (n : Shape) (s : Fields) (qs : Queue → List ℕ) (v : Valid n record 
   in-due now p e = upTo-member (n .processes) p ((filter-member _ p (upTo (n .processes)) e) .0)
 
   due-long : (now : ℕ) → length (due n s now) ≤ n .processes
-  due-long now = let a = filter-length (λ p. some (s (timer p)) && eqb (s (timer p)) now) (upTo (n .processes)) in let b = upTo-length (n .processes) in omega arith
+  due-long now = let a = filter-length (rings s now) (upTo (n .processes)) in let b = upTo-length (n .processes) in omega arith
 
   -- every rule leaves what is valid but for dispatch
-  decide-good : (c : Call) → Accepted (Fine n (v .placed .place)) (decide n s qs c)
+  pub decide-good : (c : Call) → Accepted (Fine n (v .placed .place)) (decide n s qs c)
   unfolding decide nakedly
   decide-good (Enter l) = when-by _ refl (λ r. when-by _ refl (λ j. when-by _ refl (λ o. choose-by
       (λ e. accepted (still (put (holder l) (s running) s) 1 (enters l r (outside-inside (n .locks) l j))))
@@ -209,7 +219,7 @@ module _ (n : Shape) (s : Fields) (qs : Queue → List ℕ) (v : Valid n record 
   decide-good (Notify c) = when-by _ refl (λ r. when-by _ refl (λ j. accepted (waking s 0 (firstOnly (qs (condition c))) good (in-first (condition c)) (first-long (condition c)))))
   decide-good (Broadcast c) = when-by _ refl (λ r. when-by _ refl (λ j. accepted (waking s 0 (qs (condition c)) good (in-queue (condition c)) (long (condition c)))))
   decide-good (Naked c) = when-by _ refl (λ j. nakedly-by c (qs (condition c)) s
-      (λ e. accepted (still (put (wakeup c) 1 s) 1 (rings c (outside-inside (n .conditions) c j) e)))
+      (λ e. accepted (still (put (wakeup c) 1 s) 1 (sets c (outside-inside (n .conditions) c j) e)))
       (λ x ys e. accepted (waking s 0 (x ∷ []) good (λ p z. in-first (condition c) p (rw e z)) (let w : length (firstOnly (qs (condition c))) ≤ n .processes = first-long (condition c) in rw e at w))))
   decide-good (Requeue a b p) = when-by _ refl (λ j. when-by _ refl (λ o.
       let k = or-split (ltb (n .parks) a || ltb (n .parks) b) (outside (n .processes) (p .0)) j in
@@ -259,6 +269,20 @@ unfolding step
 step-valid n s c v = obey-valid n s v (decide n (s .fields) (s .queues) c)
     (decide-keeps n (s .fields) (s .queues) (valid-bounded n (s .fields) (v .placed .range)) c) (decide-good n (s .fields) (s .queues) v c)
 
+-- no clause but the range of the clock goes by it
+pub valid-clock : {n : Shape} {s : State model} {v : ℕ} → Placed n (record { fields = put clock v (s .fields); queues = s .queues }) → Valid n s → Valid n (record { fields = put clock v (s .fields); queues = s .queues })
+valid-clock P w = record {
+  placed = P;
+  runs = w .runs;
+  steady = w .steady;
+  arms = w .arms;
+  timers = w .timers;
+  blocked = w .blocked;
+  asleep = w .asleep;
+  holders = w .holders;
+  wakeups = w .wakeups;
+}
+
 pub after-valid : (n : Shape) (cs : List Call) (s : State model) → Valid n s → Valid n (after model n s cs)
 after-valid n [] s v = v
 after-valid n (c ∷ cs) s v = after-valid n cs ((step model n s c) .0) (step-valid n s c v)
@@ -301,6 +325,7 @@ fresh-range n bytes h (priority p) = let k = fresh-bounded bytes (h .low) p in e
         go : LeCase (suc p) (n .processes) → length bytes ≤ p
         go (holds d z) = absurd (true≢false (sym (bounds-inside (n .processes) (suc p) (omega arith) d) ∙ e))
         go (fails d z) = let l = h .long in omega arith
+fresh-range n bytes h (armed p) = each-low (n .processes) p 2 0 (omega arith) (λ e. refl)
 fresh-range n bytes h (timer p) = each-low (n .processes) p 65536 0 (omega arith) (λ e. refl)
 fresh-range n bytes h (failed p) = each-low (n .processes) p 2 0 (omega arith) (λ e. refl)
 fresh-range n bytes h (holder l) = each-low (n .locks) l (suc (n .processes)) 0 (omega arith) (λ e. refl)
@@ -311,6 +336,7 @@ fresh-good n bytes h = record {
   range = fresh-range n bytes h;
   real = λ p i. refl;
   fits = λ p i. refl;
+  timers = λ p e. refl;
   holders = λ l e. refl;
   wakeups = λ c e p i. refl;
 }

@@ -13,4 +13,5 @@ pub mod Loops
 pub mod Many
 pub mod Rules
 pub mod Ticking
+pub mod Sleeping
 pub mod Reports

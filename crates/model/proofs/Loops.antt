@@ -3,23 +3,22 @@ use Prim.Native.Nat.{ℕ, zero, suc, _≤_}
 use native.Mathlib.Omega.{arith}
 use mathlib.Core.Path.{_≡_, refl, sym, ap, _∙_}
 use mathlib.Core.Logic.{_≢_}
-use mathlib.Core.Bool.{Bool, true, false, _&&_, and-false, true≢false}
+use mathlib.Core.Bool.{Bool, true, false, and-false, true≢false}
 use mathlib.Core.List.{List, [], _∷_}
-use lib.Dec.{eqb}
 use lib.ListN.{length}
 use Rattle.model.specs.declared.Shape.{Shape}
 use Rattle.model.specs.Queue.{Queue, upTo, member, firstOnly, remove, insert, move, toReady}
 use Rattle.model.specs.Queue.Queue.{ready, lock}
 use Rattle.model.specs.Ledger.{byPriority}
-use Rattle.model.specs.Field.{some}
-use Rattle.model.specs.Field.Field.{timer}
+use Rattle.model.specs.Field.Field.{armed}
 use Rattle.model.specs.Rules.{released, due}
 use Rattle.model.specs.Machine.{State, model, moves, arrivals, waiting}
 use Rattle.model.specs.Valid.{Valid}
-use Rattle.model.proofs.Tests.{not-so, eqb-case, same-case, stops, same-yes, and-split, not-true, denied, inside-bounds}
-use Rattle.model.proofs.Lists.{remove-absent, absent-count, member-here, member-there, nobody, firstOnly-member, filter-member}
+use Rattle.model.proofs.Tests.{same-case, stops, same-yes, denied, inside-bounds}
+use Rattle.model.proofs.Lists.{remove-absent, absent-count, member-here, member-there, nobody, firstOnly-member}
 use Rattle.model.proofs.Notes.{by-snoc}
 use Rattle.model.proofs.Places.{moves-append, toReady-append, Stands, stands-at, stands-start, waiting-is}
+use Rattle.model.proofs.Rules.{due-rung}
 
 -- ---- one move
 
@@ -88,12 +87,9 @@ module _ (n : Shape) (s : State model) (v : Valid n s) (now p : ℕ) (e : member
   pub due-waits : waiting n (s .queues) p ≡ true
   due-waits = go (waiting n (s .queues) p) refl
     where
-      test : some (s .fields (timer p)) && eqb (s .fields (timer p)) now ≡ true
-      test = (filter-member (λ p. some (s .fields (timer p)) && eqb (s .fields (timer p)) now) p (upTo (n .processes)) e) .1
-
       go : (b : Bool) → waiting n (s .queues) p ≡ b → b ≡ true
       go true d = refl
-      go false d = absurd (not-so (eqb-case (s .fields (timer p)) 0) (not-true (eqb (s .fields (timer p)) 0) ((and-split (some (s .fields (timer p))) (eqb (s .fields (timer p)) now) test) .0)) (v .timers p d))
+      go false d = absurd (due-rung n (s .fields) now p e .0 (v .arms p d))
 
   pub due-outside : member p (s .queues ready) ≡ false
   due-outside = go (member p (s .queues ready)) refl

@@ -10,8 +10,8 @@ use Rattle.model.specs.declared.Shape.{Shape}
 use Rattle.model.specs.Queue.{Queue, upTo, inside, exists, bit, member, count, filter, remove, insert, joined, move, toReady, Falling}
 use Rattle.model.specs.Queue.Queue.{ready}
 use Rattle.model.specs.Field.{Field, Fields, put, priorities}
-use Rattle.model.specs.Field.Field.{timer}
-use Rattle.model.specs.Rules.{calm}
+use Rattle.model.specs.Field.Field.{armed, timer}
+use Rattle.model.specs.Rules.{disarm, calm}
 use Rattle.model.specs.Machine.{State, model, moves}
 use Rattle.model.specs.Valid.{room, Placed}
 use Rattle.model.proofs.Tests.{holds, fails, EqCase, eqb-case, PutCase, put-case, eqb-comm, inside-bounds, denied}
@@ -115,16 +115,20 @@ upTo-once (suc n) p = rw (count-append p (upTo n) (suc n ∷ [])) (go (eqb-case 
 
 -- ---- a state in which many have gone to ready
 
+-- 0 is in every field's range
+zero-range : (n : Shape) (g : Field) (s : Fields) → ((f : Field) → s f < room n f) → (f : Field) → put g 0 s f < room n f
+zero-range n g s h f = go (put-case g f)
+  where
+    zeros : put g 0 s f ≡ 0 → put g 0 s f < room n f
+    zeros e = let k = h f in omega arith
+
+    go : PutCase g f → put g 0 s f < room n f
+    go (holds e z) = zeros (rw z)
+    go (fails e z) = rw z (h f)
+
 calm-range : (n : Shape) (ps : List ℕ) (s : Fields) → ((f : Field) → s f < room n f) → (f : Field) → calm ps s f < room n f
 calm-range n [] s h = h
-calm-range n (p ∷ ps) s h = calm-range n ps (put (timer p) 0 s) (λ f. go f (put-case (timer p) f))
-  where
-    zeros : (f : Field) → put (timer p) 0 s f ≡ 0 → put (timer p) 0 s f < room n f
-    zeros f e = let k = h f in omega arith
-
-    go : (f : Field) → PutCase (timer p) f → put (timer p) 0 s f < room n f
-    go f (holds e z) = zeros f (rw z)
-    go f (fails e z) = rw z (h f)
+calm-range n (p ∷ ps) s h = calm-range n ps (disarm p s) (zero-range n (armed p) (put (timer p) 0 s) (zero-range n (timer p) s h))
 
 relocate-real : (n : Shape) (ps : List ℕ) (place : ℕ → Queue) (p : ℕ) → exists n (place p) ≡ true → exists n (relocate place (toReady ps) p) ≡ true
 relocate-real n [] place p h = h

@@ -15,8 +15,8 @@ use Rattle.model.specs.declared.Answer.{Answer}
 use Rattle.model.specs.Queue.{Queue, Note, inside, upTo, member, first, firstOnly, aheadOf, insert, toReady, All}
 use Rattle.model.specs.Queue.Queue.{ready, lock, condition}
 use Rattle.model.specs.Field.{Field, Fields, put, some, priorities}
-use Rattle.model.specs.Field.Field.{running, timer, failed, holder, wakeup}
-use Rattle.model.specs.Rules.{Effect, nakedly, decide, released, alarm, due}
+use Rattle.model.specs.Field.Field.{running, armed, timer, failed, holder, wakeup}
+use Rattle.model.specs.Rules.{Effect, nakedly, decide, released, alarm, rings, due}
 use Rattle.model.specs.Rules.Effect.{refuse, accept}
 use Rattle.model.specs.Machine.{Machine, State, moves, refusal, dispatch, retry, arrivals, ahead, finish, obey, step}
 use Rattle.model.proofs.Tests.{holds, fails, so, not-so, EqCase, eqb-case, eqb-yes, eqb-no, put-here, put-away, and-split, not-true}
@@ -63,26 +63,19 @@ module _ (n : Shape) (s : Fields) (qs : Queue → List ℕ) where
   unfolding decide
   broadcast-wakes c = when-by _ refl (λ _. when-by _ refl (λ _. accepted (refl, refl)))
 
--- a wait of t ticks stores no timer of 0, unless t is 0
-pub alarm-rings : (now t : ℕ) → t ≢ 0 → alarm now t ≢ 0
-alarm-rings now t h = rw (eqb-no t 0 h) (go (eqb-case ((now + t) % 65536) 0))
-  where
-    go : EqCase ((now + t) % 65536) 0 → cond (eqb ((now + t) % 65536) 0) 1 ((now + t) % 65536) ≢ 0
-    go (holds d z) = rw z (omega arith)
-    go (fails d z) = rw z d
+-- a wait of t ticks, if t is not 0, stores the clock plus t as it comes out
+pub alarm-at : (now t : ℕ) → t ≢ 0 → alarm now t ≡ (now + t) % 65536
+alarm-at now t h = rw (eqb-no t 0 h)
 
--- Tick leaves a timer of 0 asleep, and wakes those whose timer is the clock
+-- Tick leaves who is not armed asleep, and wakes the armed whose timer is the clock
 module _ (n : Shape) (s : Fields) (now p : ℕ) where
-  abbrev rung : ℕ → Bool
-  rung x = some (s (timer x)) && eqb (s (timer x)) now
-
-  pub due-rung : member p (due n s now) ≡ true → (s (timer p) ≢ 0) × (s (timer p) ≡ now)
+  pub due-rung : member p (due n s now) ≡ true → (s (armed p) ≢ 0) × (s (timer p) ≡ now)
   due-rung e =
-      let k = and-split (some (s (timer p))) (eqb (s (timer p)) now) ((filter-member rung p (upTo (n .processes)) e) .1) in
-      (not-so (eqb-case (s (timer p)) 0) (not-true (eqb (s (timer p)) 0) (k .0)), so (eqb-case (s (timer p)) now) (k .1))
+      let k = and-split (some (s (armed p))) (eqb (s (timer p)) now) ((filter-member (rings s now) p (upTo (n .processes)) e) .1) in
+      (not-so (eqb-case (s (armed p)) 0) (not-true (eqb (s (armed p)) 0) (k .0)), so (eqb-case (s (timer p)) now) (k .1))
 
-  pub rung-due : inside (n .processes) p ≡ true → s (timer p) ≢ 0 → s (timer p) ≡ now → member p (due n s now) ≡ true
-  rung-due i o e = member-filter rung p (upTo (n .processes)) (member-upTo (n .processes) p i) (rw (eqb-no (s (timer p)) 0 o, eqb-yes (s (timer p)) now e))
+  pub rung-due : inside (n .processes) p ≡ true → s (armed p) ≢ 0 → s (timer p) ≡ now → member p (due n s now) ≡ true
+  rung-due i o e = member-filter (rings s now) p (upTo (n .processes)) (member-upTo (n .processes) p i) (rw (eqb-no (s (armed p)) 0 o, eqb-yes (s (timer p)) now e))
 
 -- ---- what all calls share
 

@@ -12,14 +12,14 @@ use Rattle.model.specs.declared.Call.the-variants.{Tick}
 use Rattle.model.specs.Queue.{Queue, inside, upTo, anyOf, same, member, filter, toReady, All}
 use Rattle.model.specs.Queue.Queue.{ready, condition}
 use Rattle.model.specs.Field.{Fields, put, some, priorities}
-use Rattle.model.specs.Field.Field.{clock, timer}
+use Rattle.model.specs.Field.Field.{clock, armed, timer}
 use Rattle.model.specs.Rules.{decide, calm, due}
 use Rattle.model.specs.Machine.{State, model, moves, step, after, waiting}
 use Rattle.model.specs.Valid.{Valid}
 use Rattle.model.specs.Timers.{ticks, distance, ticksTo, left, Entry, withLeft, dueWithin, firstEntry, nearest}
 use Rattle.model.proofs.Tests.{holds, fails, so, EqCase, eqb-case, put-here, denied, inside-bounds}
 use Rattle.model.proofs.Lists.{member-here, member-there, nobody, filter-member, member-filter, upTo-member, member-upTo, all-append}
-use Rattle.model.proofs.Fields.{calm-away, calm-other, calm-timer, dispatch-away}
+use Rattle.model.proofs.Fields.{calm-away, armed-cleared, timer-cleared, calm-other, calm-clears, dispatch-away}
 use Rattle.model.proofs.Places.{sent, relocate, Stands, stands-moves, member-is, stands-at, at-place}
 use Rattle.model.proofs.Good.{each-most}
 use Rattle.model.proofs.Kept.{step-valid}
@@ -28,40 +28,40 @@ use Rattle.model.proofs.Rules.{due-rung, rung-due}
 
 -- ---- ticks from the clock to a time
 
--- d ticks lead from now to a time: none without a time, else 1 to a full round
-data Lead (now time d : ℕ) : Type 0 where
-  off : time ≡ 0 → d ≡ 0 → Lead now time d
-  on : time ≢ 0 → 1 ≤ d → d ≤ 65536 → (now + d) % 65536 ≡ time → Lead now time d
+-- d ticks lead from now to a time: none where it is not armed, else 1 to a full round
+data Lead (now bell time d : ℕ) : Type 0 where
+  off : bell ≡ 0 → d ≡ 0 → Lead now bell time d
+  on : bell ≢ 0 → 1 ≤ d → d ≤ 65536 → (now + d) % 65536 ≡ time → Lead now bell time d
 
 -- the ticks to a time lead to it
-ticks-lead : (now time : ℕ) → now < 65536 → time < 65536 → time ≢ 0 → Lead now time (ticksTo now time)
-ticks-lead now time a b o = go (eqb-case (distance now time) 0)
+ticks-lead : (now bell time : ℕ) → now < 65536 → time < 65536 → bell ≢ 0 → Lead now bell time (ticksTo now time)
+ticks-lead now bell time a b o = go (eqb-case (distance now time) 0)
   where
-    go : EqCase (distance now time) 0 → Lead now time (ticksTo now time)
+    go : EqCase (distance now time) 0 → Lead now bell time (ticksTo now time)
     go (holds d z) = rw z (on o (omega arith) (omega arith) (omega arith))
     go (fails d z) = rw z (on o (omega arith) (omega arith) (omega arith))
 
-module _ {now time d : ℕ} where
-  -- without a time there are none
-  lead-off : Lead now time d → time ≡ 0 → d ≡ 0
+module _ {now bell time d : ℕ} where
+  -- who is not armed has none
+  lead-off : Lead now bell time d → bell ≡ 0 → d ≡ 0
   lead-off (off a b) z = b
   lead-off (on o a b e) z = absurd (o z)
 
   -- the time is the next one exactly where one tick leads to it
-  lead-one : Lead now time d → time ≢ 0 → time ≡ (now + 1) % 65536 → d ≡ 1
+  lead-one : Lead now bell time d → bell ≢ 0 → time ≡ (now + 1) % 65536 → d ≡ 1
   lead-one (off a b) o t = absurd (o a)
   lead-one (on x a b e) o t = omega arith
 
-  one-lead : Lead now time d → d ≡ 1 → (time ≢ 0) × (time ≡ (now + 1) % 65536)
+  one-lead : Lead now bell time d → d ≡ 1 → (bell ≢ 0) × (time ≡ (now + 1) % 65536)
   one-lead (off a b) k = let w : ⊥ = omega arith in absurd w
   one-lead (on o a b e) k = (o, omega arith)
 
   -- one tick later, where the time has not come
-  lead-next : {next time′ d′ : ℕ} → next ≡ (now + 1) % 65536 → time′ ≡ time → d ≢ 1 → Lead now time d → Lead next time′ d′ → d′ ≡ d - 1
-  lead-next n t k (off a b) (off x y) = omega arith
-  lead-next n t k (off a b) (on o x y e) = absurd (o (t ∙ a))
-  lead-next n t k (on o a b e) (off x y) = absurd (o (sym t ∙ x))
-  lead-next n t k (on o a b e) (on q x y f) = omega arith
+  lead-next : {next bell′ time′ d′ : ℕ} → next ≡ (now + 1) % 65536 → bell′ ≡ bell → time′ ≡ time → d ≢ 1 → Lead now bell time d → Lead next bell′ time′ d′ → d′ ≡ d - 1
+  lead-next n l t k (off a b) (off x y) = omega arith
+  lead-next n l t k (off a b) (on o x y e) = absurd (o (l ∙ a))
+  lead-next n l t k (on o a b e) (off x y) = absurd (o (sym l ∙ x))
+  lead-next n l t k (on o a b e) (on q x y f) = omega arith
 
 -- ---- what one Tick leaves
 
@@ -82,10 +82,14 @@ module _ (n : Shape) (s : State model) where
   abbrev moved : Queue → List ℕ
   moved = moves model (priorities calmed) (s .queues) (toReady woken)
 
-  -- dispatch changes neither the clock nor a timer, and no queue
+  -- dispatch changes neither the clock nor an armed or a timer, and no queue
   tick-clock : ticked .fields clock ≡ coming
   unfolding step decide
   tick-clock = dispatch-away clock (λ x t. refl) (λ x t. refl) (moved ready) calmed ∙ calm-away clock (λ x t. refl) woken (put clock coming (s .fields)) ∙ put-here clock coming (s .fields)
+
+  tick-armed : (p : ℕ) → ticked .fields (armed p) ≡ calmed (armed p)
+  unfolding step decide
+  tick-armed p = dispatch-away (armed p) (λ x t. refl) (λ x t. refl) (moved ready) calmed
 
   tick-timer : (p : ℕ) → ticked .fields (timer p) ≡ calmed (timer p)
   unfolding step decide
@@ -100,7 +104,7 @@ module _ (n : Shape) (s : State model) where
   tick-still e q = ap {A = Queue → List ℕ} (λ g. g q) (tick-queues ∙ ap {A = List ℕ} (λ ps. moves model (priorities calmed) (s .queues) (toReady ps)) e)
 
 -- those who go to ready are placed there, and the others stay
-relocate-ready : (ps : List ℕ) (place : ℕ → Queue) (p : ℕ) → relocate place (toReady ps) p ≡ cond (member p ps) ready (place p)
+pub relocate-ready : (ps : List ℕ) (place : ℕ → Queue) (p : ℕ) → relocate place (toReady ps) p ≡ cond (member p ps) ready (place p)
 relocate-ready [] place p = refl
 relocate-ready (x ∷ ps) place p = relocate-ready ps (sent place (x, ready)) p ∙ go (eqb x p) (member p ps)
   where
@@ -134,14 +138,14 @@ seat n s p = seek (n .conditions) (λ c. member p (s .queues (condition c)))
 pub left-waits : (n : Shape) (s : State model) (p : ℕ) → left n s p ≢ 0 → member p (s .queues (condition (seat n s p))) ≡ true
 left-waits n s p = go (waiting n (s .queues) p) refl
   where
-    go : (b : Bool) → waiting n (s .queues) p ≡ b → cond (b && some (s .fields (timer p))) (ticksTo (s .fields clock) (s .fields (timer p))) 0 ≢ 0
+    go : (b : Bool) → waiting n (s .queues) p ≡ b → cond (b && some (s .fields (armed p))) (ticksTo (s .fields clock) (s .fields (timer p))) 0 ≢ 0
         → member p (s .queues (condition (seat n s p))) ≡ true
     go true e o = seek-found (n .conditions) (λ c. member p (s .queues (condition c))) e
     go false e o = absurd (o refl)
 
 -- nobody has more than a full round left
 pub left-most : (n : Shape) (s : State model) (p : ℕ) → left n s p ≤ 65536
-left-most n s p = go (waiting n (s .queues) p && some (s .fields (timer p))) (distance (s .fields clock) (s .fields (timer p))) (omega arith)
+left-most n s p = go (waiting n (s .queues) p && some (s .fields (armed p))) (distance (s .fields clock) (s .fields (timer p))) (omega arith)
   where
     go : (w : Bool) (d : ℕ) → d < 65536 → cond w (cond (eqb d 0) 65536 d) 0 ≤ 65536
     go true d h = round (eqb d 0)
@@ -156,24 +160,24 @@ module _ (n : Shape) (s : State model) (v : Valid n s) where
   left-inside : (p : ℕ) → left n s p ≢ 0 → inside (n .processes) p ≡ true
   left-inside p o = (stands-at (n .processes) (s .queues) (v .placed .place) (v .placed .once) p (condition (seat n s p)) (left-waits n s p o)) .0
 
-  -- whoever has a timer waits, so the timer alone says the ticks left
-  pub left-timer : (p : ℕ) → left n s p ≡ cond (some (s .fields (timer p))) (ticksTo (s .fields clock) (s .fields (timer p))) 0
-  left-timer p = go (waiting n (s .queues) p) refl
+  -- whoever is armed waits, so armed alone says that there are ticks left
+  pub left-armed : (p : ℕ) → left n s p ≡ cond (some (s .fields (armed p))) (ticksTo (s .fields clock) (s .fields (timer p))) 0
+  left-armed p = go (waiting n (s .queues) p) refl
     where
       go : (b : Bool) → waiting n (s .queues) p ≡ b
-          → cond (b && some (s .fields (timer p))) (ticksTo (s .fields clock) (s .fields (timer p))) 0 ≡ cond (some (s .fields (timer p))) (ticksTo (s .fields clock) (s .fields (timer p))) 0
+          → cond (b && some (s .fields (armed p))) (ticksTo (s .fields clock) (s .fields (timer p))) 0 ≡ cond (some (s .fields (armed p))) (ticksTo (s .fields clock) (s .fields (timer p))) 0
       go true e = refl
-      go false e = rw (v .timers p e)
+      go false e = rw (v .arms p e)
 
   -- they lead from the clock to the timer
-  lead : (p : ℕ) → Lead (s .fields clock) (s .fields (timer p)) (left n s p)
-  lead p = go (eqb-case (s .fields (timer p)) 0)
+  lead : (p : ℕ) → Lead (s .fields clock) (s .fields (armed p)) (s .fields (timer p)) (left n s p)
+  lead p = go (eqb-case (s .fields (armed p)) 0)
     where
-      go : EqCase (s .fields (timer p)) 0 → Lead (s .fields clock) (s .fields (timer p)) (left n s p)
-      go (holds d z) = off d (left-timer p ∙ rw d)
+      go : EqCase (s .fields (armed p)) 0 → Lead (s .fields clock) (s .fields (armed p)) (s .fields (timer p)) (left n s p)
+      go (holds d z) = off d (left-armed p ∙ rw d)
       go (fails d z) =
-          subst (λ (x : ℕ). Lead (s .fields clock) (s .fields (timer p)) x) (sym (left-timer p ∙ rw z))
-          (ticks-lead (s .fields clock) (s .fields (timer p)) (v .placed .range clock) (each-most (n .processes) p 65536 (s .fields (timer p)) (v .placed .range (timer p)) (omega arith)) d)
+          subst (λ (x : ℕ). Lead (s .fields clock) (s .fields (armed p)) (s .fields (timer p)) x) (sym (left-armed p ∙ rw z))
+          (ticks-lead (s .fields clock) (s .fields (armed p)) (s .fields (timer p)) (v .placed .range clock) (each-most (n .processes) p 65536 (s .fields (timer p)) (v .placed .range (timer p)) (omega arith)) d)
 
   -- due are exactly those who have one tick left
   due-left : (p : ℕ) → member p (woken n s) ≡ true → left n s p ≡ 1
@@ -188,17 +192,19 @@ module _ (n : Shape) (s : State model) (v : Valid n s) where
 -- what one Tick leaves of it
 module _ (n : Shape) (s : State model) (v : Valid n s) where
   -- one off the ticks left
-  tick-left : (p : ℕ) → left n (ticked n s) p ≡ left n s p - 1
+  pub tick-left : (p : ℕ) → left n (ticked n s) p ≡ left n s p - 1
   tick-left p = go (eqb-case (left n s p) 1)
     where
-      then : Lead (ticked n s .fields clock) (ticked n s .fields (timer p)) (left n (ticked n s) p)
+      then : Lead (ticked n s .fields clock) (ticked n s .fields (armed p)) (ticked n s .fields (timer p)) (left n (ticked n s) p)
       then = lead n (ticked n s) (step-valid n s Tick v) p
 
       go : EqCase (left n s p) 1 → left n (ticked n s) p ≡ left n s p - 1
       go (holds d z) =
-          let e : left n (ticked n s) p ≡ 0 = lead-off then (tick-timer n s p ∙ calm-timer p (woken n s) (put clock (coming n s) (s .fields)) (left-due n s v p d)) in
+          let e : left n (ticked n s) p ≡ 0 = lead-off then (tick-armed n s p ∙ calm-clears armed-cleared p (woken n s) (put clock (coming n s) (s .fields)) (left-due n s v p d)) in
           omega arith
-      go (fails d z) = lead-next (tick-clock n s) (tick-timer n s p ∙ calm-other p (woken n s) (put clock (coming n s) (s .fields)) (not-due n s v p d)) d (lead n s v p) then
+      go (fails d z) =
+          lead-next (tick-clock n s) (tick-armed n s p ∙ calm-other armed-cleared p (woken n s) (put clock (coming n s) (s .fields)) (not-due n s v p d))
+          (tick-timer n s p ∙ calm-other timer-cleared p (woken n s) (put clock (coming n s) (s .fields)) (not-due n s v p d)) d (lead n s v p) then
 
   -- those who wake are processes, and stand in ready afterwards, the others where they stood
   woken-inside : (p : ℕ) → member p (woken n s) ≡ true → inside (n .processes) p ≡ true
@@ -208,14 +214,14 @@ module _ (n : Shape) (s : State model) (v : Valid n s) where
   stands = stands-moves (n .processes) (priorities (calmed n s)) (toReady (woken n s)) (s .queues) (v .placed .place) (v .placed .once) (ready-movers (n .processes) (woken n s) woken-inside)
 
   -- who has one tick left comes into ready
-  tick-wakes : (p : ℕ) → left n s p ≡ 1 → member p (ticked n s .queues ready) ≡ true
+  pub tick-wakes : (p : ℕ) → left n s p ≡ 1 → member p (ticked n s .queues ready) ≡ true
   tick-wakes p e =
       ap {A = Queue → List ℕ} (λ g. member p (g ready)) (tick-queues n s)
       ∙ at-place (n .processes) (moved n s) (relocate (v .placed .place) (toReady (woken n s))) stands p ready (woken-inside p (left-due n s v p e))
       (relocate-ready (woken n s) (v .placed .place) p ∙ rw (left-due n s v p e))
 
   -- anyone else stands where it stood
-  tick-stays : (p : ℕ) (q : Queue) → left n s p ≢ 1 → member p (ticked n s .queues q) ≡ member p (s .queues q)
+  pub tick-stays : (p : ℕ) (q : Queue) → left n s p ≢ 1 → member p (ticked n s .queues q) ≡ member p (s .queues q)
   tick-stays p q o =
       ap {A = Queue → List ℕ} (λ g. member p (g q)) (tick-queues n s)
       ∙ member-is (n .processes) (moved n s) (relocate (v .placed .place) (toReady (woken n s))) stands p q

@@ -10,8 +10,8 @@ use Rattle.model.specs.declared.Call.{Call}
 use Rattle.model.specs.declared.Call.the-variants.{Enter, Exit, Wait, Notify, Broadcast, Naked, Requeue, SetPriority, Tick}
 use Rattle.model.specs.Queue.{Queue}
 use Rattle.model.specs.Queue.Queue.{ready, park, lock, condition}
-use Rattle.model.specs.Field.{Field, put, priorities}
-use Rattle.model.specs.Field.Field.{clock, running, priority, timer, failed, holder, wakeup}
+use Rattle.model.specs.Field.{Field, Fields, put, priorities}
+use Rattle.model.specs.Field.Field.{clock, running, priority, armed, timer, failed, holder, wakeup}
 use Rattle.model.specs.Rules.{when, choose, nakedly, decide, startCode, fresh}
 use Rattle.model.specs.Machine.{Machine, State, model, fieldsOf, start, step, after, answers}
 use Rattle.model.specs.Ledger.{ledger, reading}
@@ -165,7 +165,7 @@ notifySetsNothing M = play M (sized 2 1 1 0) (2 ∷ 2 ∷ [])
     ((ready, 2 ∷ []) ∷ (condition 1, 1 ∷ []) ∷ [])
     ((running, 2) ∷ (wakeup 1, 0) ∷ (holder 1, 0) ∷ [])
 
--- Notify and Naked wake the first of the queue alone, which stands by priority, and clear its timer
+-- Notify and Naked wake the first of the queue alone, which stands by priority, and clear its armed and its timer
 abbrev notifyFirst : Machine → Row
 notifyFirst M = play M (sized 4 1 1 0) (2 ∷ 2 ∷ 3 ∷ 1 ∷ [])
     (gives (Enter 1) 0 3 0 1 0 0
@@ -179,9 +179,9 @@ notifyFirst M = play M (sized 4 1 1 0) (2 ∷ 2 ∷ 3 ∷ 1 ∷ [])
     ∷ gives (Naked 1) 0 3 0 0 1 0
     ∷ [])
     ((ready, 3 ∷ 1 ∷ 4 ∷ []) ∷ (condition 1, 2 ∷ []) ∷ [])
-    ((running, 3) ∷ (timer 1, 0) ∷ (timer 2, 9) ∷ (timer 3, 0) ∷ (wakeup 1, 0) ∷ [])
+    ((running, 3) ∷ (armed 1, 0) ∷ (armed 2, 1) ∷ (armed 3, 0) ∷ (timer 1, 0) ∷ (timer 2, 9) ∷ (timer 3, 0) ∷ (wakeup 1, 0) ∷ [])
 
--- Tick wakes in process order, not in the queue's, those whose timer is the clock, and no timer of 0
+-- Tick wakes in process order, not in the queue's, those who are armed and whose timer is the clock
 abbrev tickInOrder : Machine → Row
 tickInOrder M = play M (sized 4 1 1 0) (3 ∷ 3 ∷ 3 ∷ 3 ∷ [])
     (gives (Requeue 0 0 (record { 0 = 1 })) 0 2 0 0 0 0
@@ -197,7 +197,7 @@ tickInOrder M = play M (sized 4 1 1 0) (3 ∷ 3 ∷ 3 ∷ 3 ∷ [])
     ∷ gives Tick 0 4 0 0 2 0
     ∷ [])
     ((ready, 4 ∷ 1 ∷ 2 ∷ []) ∷ (condition 1, 3 ∷ []) ∷ [])
-    ((clock, 2) ∷ (running, 4) ∷ (timer 1, 0) ∷ (timer 2, 0) ∷ (timer 3, 0) ∷ [])
+    ((clock, 2) ∷ (running, 4) ∷ (armed 1, 0) ∷ (armed 2, 0) ∷ (armed 3, 0) ∷ (timer 1, 0) ∷ (timer 2, 0) ∷ (timer 3, 0) ∷ [])
 
 -- Broadcast wakes all, in the queue's order, and counts them
 abbrev broadcastAll : Machine → Row
@@ -211,7 +211,7 @@ broadcastAll M = play M (sized 3 1 1 0) (3 ∷ 3 ∷ 3 ∷ [])
     ∷ gives (Broadcast 1) 0 3 0 0 2 0
     ∷ [])
     ((ready, 3 ∷ 2 ∷ 1 ∷ []) ∷ (condition 1, []) ∷ [])
-    ((running, 3) ∷ (timer 1, 0) ∷ (timer 2, 0) ∷ [])
+    ((running, 3) ∷ (armed 1, 0) ∷ (armed 2, 0) ∷ (timer 1, 0) ∷ (timer 2, 0) ∷ [])
 
 -- Requeue moves behind the equals; only who comes into ready from another queue counts
 abbrev requeues : Machine → Row
@@ -249,17 +249,19 @@ newcomer M = play M (sized 4 0 0 1) (5 ∷ 3 ∷ 1 ∷ 3 ∷ [])
     ((ready, 1 ∷ 4 ∷ 2 ∷ 3 ∷ []) ∷ [])
     ((running, 1) ∷ [])
 
--- the clock goes round: at 0 nobody wakes, whose timer is 0 or not; clock 65535 and 1 tick ring at 1
+-- a wait that is due at clock 0 is armed with timer 0, and rings at 0; one of no ticks has the same timer, is not armed, and sleeps on
 abbrev roundClock : Machine → Row
 roundClock M = playFrom M (sized 3 1 1 0) (late M)
     (gives (Wait 1 1 (record { 0 = 1 })) 0 2 0 1 0 0
     ∷ gives (Enter 1) 0 2 0 1 0 0
     ∷ gives (Wait 1 1 (record { 0 = 0 })) 0 3 0 1 0 1
-    ∷ gives Tick 0 3 0 0 0 0
+    ∷ gives (Enter 1) 0 3 0 1 0 0
     ∷ gives Tick 0 3 0 0 1 0
+    ∷ gives (Wait 1 1 (record { 0 = 65535 })) 0 1 0 1 0 1
+    ∷ gives Tick 0 1 0 0 0 0
     ∷ [])
-    ((ready, 3 ∷ 1 ∷ []) ∷ (condition 1, 2 ∷ []) ∷ [])
-    ((clock, 1) ∷ (running, 3) ∷ (timer 1, 0) ∷ (timer 2, 0) ∷ [])
+    ((ready, 1 ∷ []) ∷ (condition 1, 2 ∷ 3 ∷ []) ∷ [])
+    ((clock, 1) ∷ (running, 1) ∷ (armed 1, 0) ∷ (armed 2, 0) ∷ (armed 3, 1) ∷ (timer 1, 0) ∷ (timer 2, 0) ∷ (timer 3, 65535) ∷ [])
 
 -- how many stand before a newcomer: its equals and those above it, at a lock and at a condition; not those behind it, and nobody where it joins ready
 abbrev howMany : Machine → Row
@@ -333,15 +335,19 @@ both-machines = refl
 
 -- ---- who is due
 
--- five processes at clock 1: 1 and 4 wait on condition 1, 2 and 3 on condition 2, and 5 runs; the timers of 1, 2 and 3 are 5, t and 3
+-- five processes at clock 1: 1 and 4 wait on condition 1, 2 and 3 on condition 2, and 5 runs; 1, 2 and 3 are armed, with timers 5, t and 3
 abbrev places : Queue → List ℕ
 places ready = 5 ∷ []
 places (park k) = []
 places (lock l) = []
 places (condition c) = cond (eqb c 1) (1 ∷ 4 ∷ []) (cond (eqb c 2) (2 ∷ 3 ∷ []) [])
 
+-- p is armed, and this is its timer
+abbrev clocked : ℕ → ℕ → Fields → Fields
+clocked p t s = put (timer p) t (put (armed p) 1 s)
+
 abbrev timed : ℕ → State model
-timed t = record { fields = put clock 1 (put (timer 1) 5 (put (timer 2) t (put (timer 3) 3 (fresh [])))); queues = places }
+timed t = record { fields = put clock 1 (clocked 1 5 (clocked 2 t (clocked 3 3 (fresh [])))); queues = places }
 
 -- who is told within k ticks, each with its ticks left
 abbrev dueRow : State model → ℕ → List Entry → Row
@@ -352,10 +358,11 @@ dueRow s k es =
 abbrev leftRow : State model → List ℕ → Row
 leftRow s ds = record { come = map (λ p. left (sized 5 1 2 0) s p) (1 ∷ 2 ∷ 3 ∷ 4 ∷ 5 ∷ []) ∷ []; must = ds ∷ [] }
 
--- by ticks left and then by number; a timer at the clock has a full round left, and is not told
+-- by ticks left and then by number; a timer at the clock has a full round left, and is not told; timer 0 is a time as any other
 who-is-due : Holds (
     leftRow (timed 3) (4 ∷ 2 ∷ 2 ∷ 0 ∷ 0 ∷ [])
     ∷ leftRow (timed 1) (4 ∷ 65536 ∷ 2 ∷ 0 ∷ 0 ∷ [])
+    ∷ leftRow (timed 0) (4 ∷ 65535 ∷ 2 ∷ 0 ∷ 0 ∷ [])
     ∷ dueRow (timed 3) 0 []
     ∷ dueRow (timed 3) 1 []
     ∷ dueRow (timed 3) 2 ((2, 2) ∷ (3, 2) ∷ [])

@@ -8,7 +8,7 @@ use Rattle.model.specs.Queue.{changed}
 -- two numbers of the state itself; then those of a process, of a lock, of a condition
 pub data Field : Type 0 where
   clock running : Field
-  priority timer failed : ℕ → Field
+  priority armed timer failed : ℕ → Field
   holder : ℕ → Field
   wakeup : ℕ → Field
   deriving Discrete as Field-discrete

@@ -1,4 +1,5 @@
--- The rules of Start and the nine calls, as 01's section "Calls" writes them, with each call's codes in the order in which it lists them.
+-- The rules of Start and the nine calls, as 01's section "Calls" writes them and 02 changes them, with each call's codes in the order in which
+-- they are listed.
 -- They read the fields and the queues before the call and say what is to be done. Code 1 (the area is not sound) and Start's code 5
 -- (the area is too short) belong to the words, and dispatch, retry and moved to all calls alike. Assumes nothing.
 use Prim.Native.Nat.{ℕ, _+_, _%_}
@@ -9,10 +10,10 @@ use lib.ListN.{length, getD}
 use Rattle.model.specs.declared.Shape.{Shape}
 use Rattle.model.specs.declared.Call.{Call}
 use Rattle.model.specs.declared.Call.the-variants.{Enter, Exit, Wait, Notify, Broadcast, Naked, Requeue, SetPriority, Tick}
-use Rattle.model.specs.Queue.{Queue, Note, outside, inside, upTo, member, firstOnly, filter, toReady}
+use Rattle.model.specs.Queue.{Queue, Note, outside, inside, bit, upTo, member, firstOnly, filter, toReady}
 use Rattle.model.specs.Queue.Queue.{ready, park, lock, condition}
 use Rattle.model.specs.Field.{Fields, put, some}
-use Rattle.model.specs.Field.Field.{clock, running, priority, timer, failed, holder, wakeup}
+use Rattle.model.specs.Field.Field.{clock, running, priority, armed, timer, failed, holder, wakeup}
 
 -- ---- what a call comes to
 
@@ -37,18 +38,26 @@ choose false d e = e
 abbrev pub released : (Queue → List ℕ) → ℕ → List Note
 released qs l = toReady (firstOnly (qs (lock l)))
 
--- timer 0 for each of them
+-- the timer of a wait of t ticks: the clock plus t, going round, or 0 if t is 0
+abbrev pub alarm : ℕ → ℕ → ℕ
+alarm now t = cond (eqb t 0) 0 ((now + t) % 65536)
+
+-- p waits for t ticks: armed if t is not 0, and its timer
+abbrev pub arm : ℕ → ℕ → Fields → Fields
+arm p t s = put (timer p) (alarm (s clock) t) (put (armed p) (bit (some t)) s)
+
+-- p waits no longer: not armed, and timer 0
+abbrev pub disarm : ℕ → Fields → Fields
+disarm p s = put (armed p) 0 (put (timer p) 0 s)
+
+-- each of them
 abbrev pub calm : List ℕ → Fields → Fields
 calm [] s = s
-calm (p ∷ ps) s = calm ps (put (timer p) 0 s)
+calm (p ∷ ps) s = calm ps (disarm p s)
 
--- each of them wakes, in this order: timer 0, and it moves to ready; it is then no longer waiting
+-- each of them wakes, in this order: no longer armed, timer 0, and it moves to ready; it is then no longer waiting
 abbrev pub wake : List ℕ → Fields → Effect
 wake ps s = accept (calm ps s) (toReady ps) 0
-
--- the timer of a wait of t ticks: 0 if t is 0, else the clock plus t, going round, with 0 replaced by 1
-abbrev pub alarm : ℕ → ℕ → ℕ
-alarm now t = cond (eqb t 0) 0 (cond (eqb ((now + t) % 65536) 0) 1 ((now + t) % 65536))
 
 -- a device's notify: over an empty queue the wakeup is set
 unfoldable pub nakedly : ℕ → List ℕ → Fields → Effect
@@ -59,9 +68,13 @@ nakedly c (p ∷ ps) s = wake (p ∷ []) s
 abbrev pub readyOrPark : ℕ → Queue
 readyOrPark k = cond (eqb k 0) ready (park k)
 
--- those whose timer is not 0 and equals the clock, in process order
+-- whether p is armed and its timer equals the clock
+abbrev pub rings : Fields → ℕ → ℕ → Bool
+rings s now p = some (s (armed p)) && eqb (s (timer p)) now
+
+-- those for whom it rings, in process order
 abbrev pub due : Shape → Fields → ℕ → List ℕ
-due n s now = filter (λ p. some (s (timer p)) && eqb (s (timer p)) now) (upTo (n .processes))
+due n s now = filter (rings s now) (upTo (n .processes))
 
 -- ---- the nine calls
 
@@ -84,7 +97,7 @@ decide n s qs (Wait l c t) =
     (when (not (eqb (s (holder l)) (s running))) 9
     (choose (some (s (wakeup c)))
     (accept (put (wakeup c) 0 (put (holder l) 0 s)) (released qs l) 0)
-    (accept (put (timer (s running)) (alarm (s clock) (t .0)) (put (holder l) 0 s)) (released qs l ++ ((s running, condition c) ∷ [])) 1))))
+    (accept (arm (s running) (t .0) (put (holder l) 0 s)) (released qs l ++ ((s running, condition c) ∷ [])) 1))))
 decide n s qs (Notify c) =
     when (eqb (s running) 0) 6
     (when (outside (n .conditions) c) 7
@@ -130,6 +143,7 @@ abbrev pub fresh : List ℕ → Fields
 fresh bytes clock = 0
 fresh bytes running = 0
 fresh bytes (priority p) = getD (0 ∷ bytes) p 0
+fresh bytes (armed p) = 0
 fresh bytes (timer p) = 0
 fresh bytes (failed p) = 0
 fresh bytes (holder l) = 0

@@ -1,4 +1,4 @@
--- 01's table: what a kernel is asked, row by row, and what must come; and that it comes from the model and the ledger, by computation.
+-- 01's table, as 02 changes it: what a kernel is asked, row by row, and what must come; and that it comes from the model and the ledger, by computation.
 -- The rows that speak of words and of lines stand in `crates/table/specs/Table.antt`. Assumes nothing.
 use Prim.Native.Nat.{ℕ, _%_}
 use native.Mathlib.Decide.{ℕ-discrete}
@@ -82,7 +82,7 @@ table =
     ∷ (starts 1 8 0, one 4)
     ∷ (lines (Enter 0 ∷ Enter 2 ∷ []), (0 ∷ 2 ∷ 0 ∷ 0 ∷ 0 ∷ 0 ∷ []) ∷ (7 ∷ 0 ∷ 0 ∷ 0 ∷ 0 ∷ 0 ∷ []) ∷ (7 ∷ 0 ∷ 0 ∷ 0 ∷ 0 ∷ 0 ∷ []) ∷ [])
     ∷ (stores 65534 1, one 65535)
-    ∷ (stores 65535 1, one 1)
+    ∷ (stores 65535 1, one 0)
     ∷ (stores 65535 2, one 1)
     ∷ []
 

@@ -1,21 +1,37 @@
--- Timers, while only Tick runs: how many ticks each process has left, who is due within so many, and who is the nearest. Item 1 of document 02.
--- Assumes nothing.
+-- Timers: how many ticks each process has left, who is due within so many, and who is the nearest. Items 1
+-- and 5 of document 02. Assumes nothing.
 use Prim.Native.Nat.{ℕ, zero, suc, _+_, _-_, _%_}
-use mathlib.Core.Bool.{_&&_, cond}
+use mathlib.Core.Bool.{Bool, true, false, _&&_, cond}
 use mathlib.Core.List.{List, [], _∷_, _++_, map}
 use lib.Dec.{eqb}
 use Rattle.model.specs.declared.Shape.{Shape}
 use Rattle.model.specs.declared.Call.{Call}
-use Rattle.model.specs.declared.Call.the-variants.{Tick}
-use Rattle.model.specs.Queue.{upTo, filter}
+use Rattle.model.specs.declared.Call.the-variants.{Enter, Exit, Wait, Notify, Broadcast, Naked, Requeue, SetPriority, Tick}
+use Rattle.model.specs.Queue.{bit, upTo, filter}
 use Rattle.model.specs.Field.{some}
-use Rattle.model.specs.Field.Field.{clock, timer}
+use Rattle.model.specs.Field.Field.{clock, armed, timer}
 use Rattle.model.specs.Machine.{State, model, waiting}
 
 -- k Ticks
 abbrev pub ticks : ℕ → List Call
 ticks zero = []
 ticks (suc k) = Tick ∷ ticks k
+
+abbrev pub isTick : Call → Bool
+isTick (Enter l) = false
+isTick (Exit l) = false
+isTick (Wait l c t) = false
+isTick (Notify c) = false
+isTick (Broadcast c) = false
+isTick (Naked c) = false
+isTick (Requeue a b p) = false
+isTick (SetPriority v) = false
+isTick Tick = true
+
+-- how many Ticks there are among calls
+abbrev pub ticksIn : List Call → ℕ
+ticksIn [] = 0
+ticksIn (c ∷ cs) = bit (isTick c) + ticksIn cs
 
 -- from the clock to a time, going round
 abbrev pub distance : ℕ → ℕ → ℕ
@@ -25,9 +41,9 @@ distance now time = (time + (65536 - now)) % 65536
 abbrev pub ticksTo : ℕ → ℕ → ℕ
 ticksTo now time = cond (eqb (distance now time) 0) 65536 (distance now time)
 
--- p's ticks left, where it waits with a timer that is not 0; else 0
+-- p's ticks left, where it waits and is armed; else 0
 abbrev pub left : Shape → State model → ℕ → ℕ
-left n s p = cond (waiting n (s .queues) p && some (s .fields (timer p))) (ticksTo (s .fields clock) (s .fields (timer p))) 0
+left n s p = cond (waiting n (s .queues) p && some (s .fields (armed p))) (ticksTo (s .fields clock) (s .fields (timer p))) 0
 
 -- a process and its ticks left
 abbrev pub Entry : Type 0

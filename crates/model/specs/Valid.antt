@@ -1,4 +1,5 @@
--- Which states are valid: the clauses of 01's "sound" that speak of queues and fields rather than of words and bits, in its order.
+-- Which states are valid: the clauses of "sound" that speak of queues and fields rather than of words and bits, in 01's order; 02 has two in
+-- the place of the one on timers.
 -- Locked and waiting are no clauses: a state says them by its holders and its queues. Assumes nothing.
 use Prim.Native.Nat.{ℕ, suc, _<_}
 use mathlib.Core.Path.{_≡_}
@@ -8,7 +9,7 @@ use Rattle.model.specs.declared.Shape.{Shape}
 use Rattle.model.specs.Queue.{Queue, inside, bit, same, exists, member, count, first, Falling}
 use Rattle.model.specs.Queue.Queue.{ready, lock, condition}
 use Rattle.model.specs.Field.{Field, some, priorities}
-use Rattle.model.specs.Field.Field.{clock, running, priority, timer, failed, holder, wakeup}
+use Rattle.model.specs.Field.Field.{clock, running, priority, armed, timer, failed, holder, wakeup}
 use Rattle.model.specs.Rules.{counted}
 use Rattle.model.specs.Machine.{State, model, waiting}
 
@@ -21,6 +22,7 @@ abbrev pub room : Shape → Field → ℕ
 room n clock = 65536
 room n running = suc (n .processes)
 room n (priority p) = each (n .processes) p 8
+room n (armed p) = each (n .processes) p 2
 room n (timer p) = each (n .processes) p 65536
 room n (failed p) = each (n .processes) p 2
 room n (holder l) = each (n .locks) l (suc (n .processes))
@@ -43,8 +45,9 @@ pub record Valid (n : Shape) (s : State model) : Type 0 where
   -- running is the first of ready, 0 if ready is empty, and is not failed
   pub runs : s .fields running ≡ first (s .queues ready)
   pub steady : s .fields (failed (s .fields running)) ≡ 0
-  -- the timer is 0 where waiting is clear
-  pub timers : (p : ℕ) → waiting n (s .queues) p ≡ false → s .fields (timer p) ≡ 0
+  -- armed is set only where waiting is set, and the timer is 0 where armed is clear
+  pub arms : (p : ℕ) → waiting n (s .queues) p ≡ false → s .fields (armed p) ≡ 0
+  pub timers : (p : ℕ) → s .fields (armed p) ≡ 0 → s .fields (timer p) ≡ 0
   -- failed is set in lock queues and clear in condition queues
   pub blocked : (l p : ℕ) → member p (s .queues (lock l)) ≡ true → s .fields (failed p) ≡ 1
   pub asleep : (c p : ℕ) → member p (s .queues (condition c)) ≡ true → s .fields (failed p) ≡ 0

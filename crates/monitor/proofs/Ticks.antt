@@ -1,6 +1,6 @@
 -- What Ticks bring about, on areas: a sound area is the words of its state, and each Tick leaves the words of the state one Tick on, so what
 -- Ticks do to states they do to areas. What is shown can be decided, so an area that cannot be unsound will do for a sound one. Assumes nothing.
-use Prim.Native.Nat.{ℕ, zero, suc, _+_, _*_, _<_}
+use Prim.Native.Nat.{ℕ, zero, suc, _+_, _-_, _*_, _≤_, _<_}
 use native.Mathlib.Decide.{decLt}
 use native.Mathlib.Omega.{arith}
 use mathlib.Core.Path.{_≡_, refl, sym, ap, _∙_, subst}
@@ -8,14 +8,20 @@ use mathlib.Core.Logic.{_≢_}
 use mathlib.Core.Bool.{Bool, true, false, false≢true}
 use mathlib.Core.List.{List, [], _∷_, _++_}
 use lib.ListN.{length, getD, drop}
+use Rattle.model.specs.declared.Shape.{Shape}
+use Rattle.model.specs.declared.Ticks.{Ticks}
+use Rattle.model.specs.declared.Call.{Call}
+use Rattle.model.specs.declared.Call.the-variants.{Wait}
 use Rattle.model.specs.declared.Answer.{Answer}
 use Rattle.model.specs.declared.Report.{Report}
-use Rattle.model.specs.Queue.{member, All}
+use Rattle.model.specs.Queue.{bit, member, All}
 use Rattle.model.specs.Queue.Queue.{ready, condition}
-use Rattle.model.specs.Machine.{State, model, after}
-use Rattle.model.specs.Timers.{ticks, left, Entry, dueWithin}
+use Rattle.model.specs.Field.Field.{running}
+use Rattle.model.specs.Machine.{State, model, step, after, waiting}
+use Rattle.model.specs.Timers.{ticks, isTick, ticksIn, left, Entry, dueWithin}
 use Rattle.model.specs.Reports.{Reports}
-use Rattle.model.proofs.Ticking.{seat, left-waits, ticks-stay, ticks-wake, ticks-still, Exact, due-exact, nearest-is}
+use Rattle.model.proofs.Ticking.{seat, left-waits, tick-wakes, ticks-stay, ticks-wake, ticks-still, Exact, due-exact, nearest-is}
+use Rattle.model.proofs.Sleeping.{Lets, awaits, call-lets, wait-left}
 use Rattle.area.specs.Reading.{shapeOf, stateOf}
 use Rattle.area.specs.Sound.{Sound}
 use Rattle.area.proofs.States.{sound-image}
@@ -23,8 +29,9 @@ use Rattle.timers.specs.declared.Earliest.{Earliest}
 use Rattle.timers.specs.Telling.{inWords}
 use Rattle.monitor.specs.Calls.{Performs, TellsOn, NearestOn}
 use Rattle.monitor.specs.History.{Run}
-use Rattle.monitor.specs.Ticks.{WakesIn, Still}
-use Rattle.monitor.proofs.History.{Keeps, keeps-state, run-keeps}
+use Rattle.monitor.specs.History.Run.{none, then}
+use Rattle.monitor.specs.Ticks.{WakesIn, Still, Undisturbed, SleepsFor}
+use Rattle.monitor.proofs.History.{Keeps, keeps-shape, keeps-state, step-answer, step-keeps, run-keeps}
 use Rattle.monitor.proofs.Promises.{settle, lists?}
 
 -- ---- from a sound area
@@ -121,3 +128,53 @@ module _ {ws : List ℕ} {r : Earliest} (W : NearestOn ws r) where
   pub still-ever : (k : ℕ) → r .code ≡ 0 → r .process ≡ 0 → Still Performs ws k
   still-ever k z y = none-moves (λ u. let c = ap {A = Earliest} (λ a. a .code) (W .unsound u) in omega arith) k
       (λ S p o. absurd (o (nearest-is (shapeOf ws) (stateOf ws) (S .valid) .none (sym (ap {A = Earliest} (λ a. a .process) (W .sound S)) ∙ y) p)))
+
+-- ---- a wait of t ticks
+
+-- the area's state has p waiting, as it says
+waits-are : {n : Shape} {ws : List ℕ} {s : State model} (p : ℕ) → Keeps n ws s → waiting (shapeOf ws) (stateOf ws .queues) p ≡ waiting n (s .queues) p
+waits-are {ws = ws} {s = s} p K = ap {A = State model} (λ t. waiting (shapeOf ws) (t .queues) p) (keeps-state K) ∙ ap {A = Shape} (λ m. waiting m (s .queues) p) (keeps-shape K)
+
+-- p stands in condition c with d ticks left
+record Asleep (p c : ℕ) (n : Shape) (ws : List ℕ) (d : ℕ) : Type 0 where
+  state : State model
+  keeps : Keeps n ws state
+  lasts : left n state p ≡ d
+  stands : member p (state .queues (condition c)) ≡ true
+
+-- it does so after a run of calls of which none but Tick wakes it, with as many ticks less
+sleep-run : (p c : ℕ) {n : Shape} {cs : List Call} {ws new : List ℕ} {rs : List Answer} {d : ℕ} → Asleep p c n ws d → Run (Undisturbed Performs p) cs ws new rs → ticksIn cs < d → Asleep p c n new (d - ticksIn cs)
+sleep-run p c {n} {new = new} {d = d} S none h = subst (Asleep p c n new) (let e : d ≡ d - 0 = omega arith in e) S
+sleep-run p c {n} {new = new} {d = d} S (then {c = a} {cs} {mid = mid} U R) h =
+    subst (Asleep p c n new) (let e : d - bit (isTick a) - ticksIn cs ≡ d - (bit (isTick a) + ticksIn cs) = omega arith in e)
+    (sleep-run p c (record { state = (step model n (S .state) a) .0; keeps = K; lasts = omega (arith, L .lasts, S .lasts); stands = L .stands (condition c) ∙ S .stands }) R (omega arith))
+  where
+    K : Keeps n mid ((step model n (S .state) a) .0)
+    K = step-keeps (S .keeps) (U .kept)
+
+    L : Lets n (S .state) ((step model n (S .state) a) .0) p (bit (isTick a))
+    L = call-lets n (S .state) (S .keeps .valid) p a
+        (λ e. sym (waits-are p K) ∙ U .asleep e (waits-are p (S .keeps) ∙ awaits n (S .state) (S .keeps .valid) p (omega (arith, S .lasts))))
+        (omega (arith, S .lasts))
+
+-- a Wait of t ticks with mark 1 lasts t ticks
+pub wait-lasts : {l c : ℕ} {t : Ticks} {old new : List ℕ} {a : Answer} → Performs (Wait l c t) old new a → a .mark ≡ 1 → 1 ≤ t .0 → t .0 ≤ 65535
+    → SleepsFor Performs new (stateOf old .fields running) c (t .0)
+wait-lasts {l} {c} {t} {old} {new} {a} W m low high = record {
+  waits = λ {new = end} R h. sure known (passed? (member p (stateOf end .queues (condition c)))) (λ S.
+      let A = sleep-run p c (asleep S) R h in ap {A = State model} (λ s. member p (s .queues (condition c))) (keeps-state (A .keeps)) ∙ A .stands);
+  wakes = λ {new = end} R e P. sure known (passed? (member p (stateOf end .queues ready))) (λ S.
+      let A = sleep-run p c (asleep S) R (omega arith) in
+      ap {A = State model} (λ s. member p (s .queues ready)) (keeps-state (step-keeps (A .keeps) P)) ∙ tick-wakes (shapeOf old) (A .state) (A .keeps .valid) p (omega (arith, A .lasts)));
+}
+  where
+    p : ℕ
+    p = stateOf old .fields running
+
+    known : (Sound old → ⊥) → ⊥
+    known u = let e = ap {A = Answer} (λ b. b .mark) (W .unsound u .0) in omega arith
+
+    asleep : Sound old → Asleep p c (shapeOf old) new (t .0)
+    asleep S =
+        let k = wait-left (shapeOf old) (stateOf old) (S .valid) l c t (ap {A = Answer} (λ b. b .mark) (sym (step-answer (own S) W)) ∙ m) low high in
+        record { state = (step model (shapeOf old) (stateOf old) (Wait l c t)) .0; keeps = step-keeps (own S) W; lasts = k .0; stands = k .1 }

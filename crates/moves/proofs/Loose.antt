@@ -5,16 +5,14 @@ use native.Mathlib.Omega.{arith}
 use mathlib.Core.Path.{_≡_, refl, sym, ap, _∙_}
 use mathlib.Core.Bool.{true, false, true≢false}
 use mathlib.Core.List.{List}
-use mathlib.Core.Logic.{_≢_}
 use lib.ListN.{length, drop, length-drop}
 use Rattle.model.specs.declared.Shape.{Shape}
 use Rattle.model.specs.Queue.{Queue, inside, bit, isCondition, member, Falling}
-use Rattle.model.specs.Field.{Field, Fields, put, some, priorities}
-use Rattle.model.specs.Field.Field.{holder}
+use Rattle.model.specs.Field.{Field, Fields, put, priorities}
 use Rattle.model.specs.Machine as machine
 use Rattle.model.specs.Machine.{State, model}
 use Rattle.model.specs.Valid.{Placed}
-use Rattle.model.proofs.Tests.{holds, fails, SameCase, same-case, EqCase, eqb-case, PutCase, put-case, put-away}
+use Rattle.model.proofs.Tests.{holds, fails, SameCase, same-case, EqCase, eqb-case, PutCase, put-case}
 use Rattle.model.proofs.Places.{stands-at, waiting-is}
 use Rattle.links.specs.Link as link
 use Rattle.ring.proofs.Rings.{ring-same}
@@ -102,26 +100,32 @@ module _ {n : Shape} {old mid : List ℕ} {f : Fields} {qs : Queue → List ℕ}
     beyond = R .stored .beyond ∙ L .beyond;
   }
 
--- a field other than a holder takes a value, and p, which stands in no queue, its waiting bit
-module _ {n : Shape} {old mid : List ℕ} {f : Fields} {qs : Queue → List ℕ} (g : Field) (v p w : ℕ) (L : Loose n old mid f qs)
-    (off : (l : ℕ) → g ≢ holder l) (out : (q : Queue) → member p (qs q) ≡ false) (h : (q : Queue) → Falling (priorities (put g v f)) (qs q)) where
-  abbrev pub written : Parts
-  written = alter (waiting p) w (alter (kept g) v (L .parts))
+-- the fields that the parts say when one of them has taken a value
+pub alter-fields : (g : Field) (v : ℕ) (t : Parts) (f : Fields) → ((x : Field) → t (kept x) ≡ f x) → (x : Field) → alter (kept g) v t (kept x) ≡ put g v f x
+alter-fields g v t f e x = go (put-case g x)
+  where
+    go : PutCase g x → alter (kept g) v t (kept x) ≡ put g v f x
+    go (holds d z) = rw (z, ← d) (alter-here (kept g) v t)
+    go (fails d z) = rw z (alter-away (kept g) (kept x) v t (λ k. d (cc)) ∙ e x)
 
-  pub written-fields : (x : Field) → PutCase g x → written (kept x) ≡ put g v f x
-  written-fields x (holds e z) = rw (z, ← e) (alter-here (kept g) v (L .parts))
-  written-fields x (fails e z) = rw z (alter-away (kept g) (kept x) v (L .parts) (λ d. e (cc)) ∙ L .fields x)
+-- fields take values, and no other part but p's waiting bit, where p stands in no queue: t are the parts that say the fields g, and w is that bit
+module _ {n : Shape} {old mid : List ℕ} {f : Fields} {qs : Queue → List ℕ} (t : Parts) (g : Fields) (p w : ℕ) (L : Loose n old mid f qs)
+    (said : (x : Field) → t (kept x) ≡ g x) (tails : (q : Queue) → t (tail q) ≡ L .parts (tail q)) (nexts : (x : ℕ) → t (next x) ≡ L .parts (next x))
+    (locks : (l : ℕ) → t (locked l) ≡ bit (machine.locked g l)) (waits : (x : ℕ) → t (waiting x) ≡ L .parts (waiting x))
+    (out : (q : Queue) → member p (qs q) ≡ false) (h : (q : Queue) → Falling (priorities g) (qs q)) where
+  abbrev pub written : Parts
+  written = alter (waiting p) w t
 
   pub written-waits : (q : Queue) (x : ℕ) → member x (qs q) ≡ true → EqCase p x → written (waiting x) ≡ bit (isCondition q)
   written-waits q x m (holds e z) = absurd (true≢false (sym m ∙ rw (← e) (out q)))
-  written-waits q x m (fails e z) = alter-away (waiting p) (waiting x) w (alter (kept g) v (L .parts)) (λ d. e (cc)) ∙ L .waits q x m
+  written-waits q x m (fails e z) = alter-away (waiting p) (waiting x) w t (λ d. e (cc)) ∙ waits x ∙ L .waits q x m
 
-  abbrev pub loose-put : {new : List ℕ} → Stored n mid new written → Loose n old new (put g v f) qs
-  loose-put st = record {
+  abbrev pub loose-written : {new : List ℕ} → Stored n mid new written → Loose n old new g qs
+  loose-written st = record {
     parts = written;
-    rings = rings-stored written (L .rings) st (λ q. refl) (λ x. refl);
-    fields = λ x. written-fields x (put-case g x);
-    locks = λ l. L .locks l ∙ ap (λ x. bit (some x)) (sym (put-away g v f (holder l) (off l)));
+    rings = rings-stored written (L .rings) st tails nexts;
+    fields = said;
+    locks = locks;
     waits = λ q x m. written-waits q x m (eqb-case p x);
     falls = h;
     beyond = st .beyond ∙ L .beyond;

@@ -29,7 +29,7 @@ use Rattle.ring.specs.Ring.{Arrived}
 use Rattle.area.specs.Loose.{Loose}
 use Rattle.area.proofs.Stores.{alter-here, alter-own}
 use Rattle.area.proofs.Rings.{one-queue}
-use Rattle.moves.proofs.Loose.{loose-of, loose-relinked, loose-put, settled}
+use Rattle.moves.proofs.Loose.{loose-of, loose-relinked, alter-fields, loose-written, settled}
 use Rattle.moves.proofs.Shared.{put-own, going}
 
 module _ {n : Shape} {ws : List ℕ} {at-from at-to p waits : ℕ} (m : Moves n ws at-from at-to p waits) where
@@ -109,7 +109,8 @@ module _ {n : Shape} {ws : List ℕ} {at-from at-to p waits : ℕ} (m : Moves n 
     -- ---- it takes its priority and its waiting bit
 
     abbrev loose₂ : Loose n ws ws₂ (s′ .fields) without
-    loose₂ = loose-put (priority p) v p waits loose₁ (λ l e. let z : _≡_ {A = ℕ} 0 1 = cc in omega arith) without-out falls-without W
+    loose₂ = loose-written (alter (kept (priority p)) v (L .parts)) (s′ .fields) p waits loose₁ (alter-fields (priority p) v (L .parts) (s .fields) (loose₁ .fields))
+        (λ q. refl) (λ x. refl) (loose₁ .locks) (λ x. refl) without-out falls-without W
 
     pub ranks-are : ranks (loose₂ .parts) ≡ priorities (s′ .fields)
     ranks-are = fun-ext (λ x. loose₂ .fields (priority x))

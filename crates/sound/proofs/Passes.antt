@@ -1,7 +1,9 @@
 -- A sound area passes: each clause of its soundness gives what one part of the check asks for. Assumes nothing.
 use Prim.Native.Nat.{ℕ, _/_, _%_, _≤_}
+use native.Mathlib.Decide.{ℕ-discrete}
 use native.Mathlib.Omega.{arith}
 use mathlib.Core.Path.{_≡_, refl, sym, _∙_, ap, subst}
+use mathlib.Core.Logic.{inl, inr}
 use mathlib.Core.Bool.{Bool, true, false, not, cond, true≢false}
 use mathlib.Core.List.{List, [], _∷_}
 use lib.Dec.{eqb}
@@ -29,7 +31,7 @@ use Rattle.area.proofs.Rings.{last-member, ring-ext, member-inside}
 use Rattle.area.proofs.States.{chain-read}
 use Rattle.heads.specs.First.{Counted, Runs}
 use Rattle.heads.proofs.Tests.{Headed}
-use Rattle.members.proofs.Tests.{Fits}
+use Rattle.members.proofs.Tests.{Asleep, Fits}
 use Rattle.members.proofs.Chains.{Words, Member, member-all}
 use Rattle.sound.proofs.Queues.{kindOf, tailWord, holderWord}
 use Rattle.sound.proofs.Lists.{hits, every, every-once}
@@ -134,7 +136,7 @@ module _ (ws : List ℕ) (small : Words ws) (S : Sound ws) where
       go true = tt
       go false = chain-read nx (partsOf n ws (tail q)) P (partsOf n ws (tail q)) (nx (partsOf n ws (tail q))) refl
 
-  -- waiting, timer and failed of a member
+  -- waiting, armed, timer and failed of a member
   waits-is : (x : ℕ) (q : Queue) → member x (reading ws q) ≡ true → machine.waiting n (reading ws) x ≡ isCondition q
   waits-is x q m =
       let p = S .valid .placed in
@@ -147,14 +149,28 @@ module _ (ws : List ℕ) (small : Words ws) (S : Sound ws) where
   link-low : (x : ℕ) → inside P x ≡ true → link x % 4 ≡ 0
   link-low x i = let t = rw i at (S .tidy (Link x) i) in omega arith
 
+  -- without armed there is no timer
+  untimed : (x : ℕ) → inside P x ≡ true → flags x / 4 % 2 ≡ 0 → timer x ≡ 0
+  untimed x i a =
+      let t : timer x / 1 % 65536 ≡ 0 = rw i at (S .valid .timers x (rw i a)) in
+      let s = small (at n (Timer x)) in
+      omega arith
+
   idle : (x : ℕ) (q : Queue) → member x (reading ws q) ≡ true → isCondition q ≡ false → (flags x ≡ 0) × (timer x ≡ 0) × (link x % 4 ≡ 0)
   idle x q m e =
       let i = is-inside x q m in
       let f = rw i at (S .tidy (Flags x) i) in
       let b : flags x / 2 % 2 ≡ 0 = flag x q m ∙ rw e in
-      let t : timer x / 1 % 65536 ≡ 0 = rw i at (S .valid .timers x (waits-is x q m ∙ e)) in
-      let s = small (at n (Timer x)) in
-      (omega arith, omega arith, link-low x i)
+      let a : flags x / 4 % 2 ≡ 0 = rw i at (S .valid .arms x (waits-is x q m ∙ e)) in
+      (omega arith, untimed x i a, link-low x i)
+
+  -- armed, or not
+  waits : (x c : ℕ) → member x (reading ws (condition c)) ≡ true → Asleep (flags x) (timer x)
+  waits x c m =
+      let i = is-inside x (condition c) m in
+      let f = rw i at (S .tidy (Flags x) i) in
+      let g : flags x / 2 % 2 ≡ 1 = flag x (condition c) m in
+      elim (ℕ-discrete (flags x / 4 % 2) 0) [ yes a ↦ inr (omega arith, untimed x i a) | no a ↦ inl (omega arith) ]
 
   fits : (x : ℕ) (q : Queue) → member x (reading ws q) ≡ true → Fits (kindOf q) (link x) (flags x) (timer x)
   fits x ready m = record { waits = λ z. absurd (omega arith); idle = λ z. idle x ready m refl; blocked = λ z. absurd (omega arith) }
@@ -167,9 +183,8 @@ module _ (ws : List ℕ) (small : Words ws) (S : Sound ws) where
   fits x (condition c) m =
       let i = is-inside x (condition c) m in
       let b : link x / 4 % 2 ≡ 0 = rw i at (S .valid .asleep c x m) in
-      let t = link-low x i in let f = rw i at (S .tidy (Flags x) i) in
-      let g : flags x / 2 % 2 ≡ 1 = flag x (condition c) m in
-      record { waits = λ z. (omega arith, omega arith); idle = λ z. absurd (z refl); blocked = λ z. absurd (omega arith) }
+      let t = link-low x i in
+      record { waits = λ z. (waits x c m, omega arith); idle = λ z. absurd (z refl); blocked = λ z. absurd (omega arith) }
 
   not-zero : (x : ℕ) (q : Queue) → member x (reading ws q) ≡ true → x ≡ 0 → ⊥
   not-zero x q m e = let b = inside-bounds P x (is-inside x q m) in omega arith

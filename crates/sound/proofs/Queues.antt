@@ -110,6 +110,12 @@ module _ (hs rs : List ℕ) (P k : ℕ) where
             go none q t = absurd (z t)
             go (some js) q t = record { js = js; met = t; so = q }
 
+-- none is passed before the first
+pub from-none : (hs rs : List ℕ) (P k n c₀ c : ℕ) (ms₀ ms : List ℕ) → ((js is : List ℕ) → passed hs rs P k 0 js ≡ some is → Met P ms₀ is c₀ → Told P c ms (passed hs rs P k n js))
+    → (js : List ℕ) → Met P ms₀ js c₀ → Told P c ms (passed hs rs P k n js)
+unfolding passed
+from-none hs rs P k n c₀ c ms₀ ms t js T = t js js refl T
+
 -- ---- the queues of an area
 
 -- the kind of a queue: 0 ready and the parks, 1 the locks, 2 the conditions

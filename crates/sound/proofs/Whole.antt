@@ -3,7 +3,7 @@ use Prim.Native.Nat.{ℕ, _+_, _*_, _/_, _%_, _≤_, _<_}
 use native.Mathlib.Decide.{ℕ-discrete}
 use native.Mathlib.Omega.{arith}
 use mathlib.Core.Path.{_≡_, refl, sym, _∙_}
-use mathlib.Core.Logic.{_≢_, _⊎_, inl, inr}
+use mathlib.Core.Logic.{_≢_, _⊎_, inl, inr, ⊎-elim}
 use mathlib.Core.Bool.{Bool, true, false, not, _&&_, cond, true≢false, false≢true}
 use mathlib.Core.List.{List, [], _∷_}
 use lib.Dec.{eqb}
@@ -12,7 +12,7 @@ use Rattle.model.specs.declared.Shape.{Shape}
 use Rattle.model.specs.Queue.{Queue, inside, bit, same, exists, member, count, first, All, Falling, isCondition}
 use Rattle.model.specs.Queue.Queue.{ready, park, lock, condition}
 use Rattle.model.specs.Field.{Field, some, priorities}
-use Rattle.model.specs.Field.Field.{clock, running, priority, timer, failed, holder, wakeup}
+use Rattle.model.specs.Field.Field.{clock, running, priority, armed, timer, failed, holder, wakeup}
 use Rattle.model.specs.Machine as machine
 use Rattle.model.specs.Rules.{counted}
 use Rattle.model.specs.Valid.{room}
@@ -32,7 +32,7 @@ use Rattle.area.specs.Sound.{Sound}
 use Rattle.area.proofs.Rings.{last-member}
 use Rattle.heads.specs.First.{Counted, Runs}
 use Rattle.heads.proofs.Tests.{Headed}
-use Rattle.members.proofs.Tests.{Fits}
+use Rattle.members.proofs.Tests.{Asleep, Fits}
 use Rattle.members.proofs.Chains.{Words, Member, all-member, member-all}
 use Rattle.sound.proofs.Queues.{kindOf, tailWord, holderWord}
 use Rattle.sound.proofs.Lists.{every, every-in, in-every}
@@ -97,7 +97,14 @@ flag-bit : (q : Queue) (w f t : ℕ) → Fits (kindOf q) w f t → f / 2 % 2 ≡
 flag-bit ready w f t h = let a = h .idle (λ z. omega arith) in omega arith
 flag-bit (park k) w f t h = let a = h .idle (λ z. omega arith) in omega arith
 flag-bit (lock l) w f t h = let a = h .idle (λ z. omega arith) in omega arith
-flag-bit (condition c) w f t h = let a = h .waits refl in omega arith
+flag-bit (condition c) w f t h = ⊎-elim (λ d. omega arith) (λ d. let a = d .0 in omega arith) (h .waits refl .0)
+
+-- without armed there is no timer
+flag-timer : (k w f t : ℕ) → Fits k w f t → f / 4 % 2 ≡ 0 → t ≡ 0
+flag-timer k w f t h e = elim (ℕ-discrete k 2) [
+  | yes d ↦ ⊎-elim (λ a. let z : ⊥ = omega arith in absurd z) (λ a. a .1) (h .waits d .0)
+  | no d ↦ h .idle d .1
+]
 
 no-condition : (q : Queue) → isCondition q ≡ false → kindOf q ≡ 2 → ⊥
 no-condition ready e z = omega arith
@@ -106,11 +113,15 @@ no-condition (lock l) e z = omega arith
 no-condition (condition c) e z = true≢false e
 
 -- the link and the flags of a member, and the word of a queue, are their parts
-record-tidy : (k w f t : ℕ) → w < 65536 → Fits k w f t → (w ≡ w / 8192 % 8 * 8192 + w / 8 % 1024 * 8 + w / 4 % 2 * 4) × (f ≡ f / 2 % 2 * 2)
+flag-tidy : (f t : ℕ) → Asleep f t → f ≡ f / 4 % 2 * 4 + f / 2 % 2 * 2
+flag-tidy f t (inl d) = rw d
+flag-tidy f t (inr d) = rw (d .0)
+
+record-tidy : (k w f t : ℕ) → w < 65536 → Fits k w f t → (w ≡ w / 8192 % 8 * 8192 + w / 8 % 1024 * 8 + w / 4 % 2 * 4) × (f ≡ f / 4 % 2 * 4 + f / 2 % 2 * 2)
 record-tidy k w f t s h =
     let a : w % 8192 ≡ w / 8 % 1024 * 8 + w % 8 = omega arith in
     elim (ℕ-discrete k 2) [
-      | yes e ↦ let b = h .waits e in (omega arith, omega arith)
+      | yes e ↦ let b = h .waits e .1 in (omega arith, flag-tidy f t (h .waits e .0))
       | no n ↦ let b = h .idle n in (omega arith, omega arith)
     ]
 
@@ -272,6 +283,7 @@ module _ (ws : List ℕ) (small : Words ws) (W : Whole ws) where
   range-at clock = omega arith
   range-at running = omega (arith, run-word .0)
   range-at (priority p) = ranged (inside P p) _ 8 (omega arith)
+  range-at (armed p) = ranged (inside P p) _ 2 (omega arith)
   range-at (timer p) = ranged (inside P p) _ 65536 (omega arith)
   range-at (failed p) = ranged (inside P p) _ 2 (omega arith)
   range-at (holder l) = go (inside (n .locks) l) refl
@@ -317,21 +329,28 @@ module _ (ws : List ℕ) (small : Words ws) (W : Whole ws) where
           let z : getD ws 4 0 / 8 % 1024 ≡ links.next rs (getD ws 5 0 / 8) = omega arith in
           rw (i, z, ← link-word ws (links.next rs (getD ws 5 0 / 8))) (a .clear)
 
-  timers-at : (x : ℕ) → machine.waiting n (reading ws) x ≡ false → partsOf n ws (kept (timer x)) ≡ 0
-  timers-at x w = go (inside P x) refl
+  arms-at : (x : ℕ) → machine.waiting n (reading ws) x ≡ false → partsOf n ws (kept (armed x)) ≡ 0
+  arms-at x w = go (inside P x) refl
     where
-      go : (b : Bool) → inside P x ≡ b → partsOf n ws (kept (timer x)) ≡ 0
+      go : (b : Bool) → inside P x ≡ b → partsOf n ws (kept (armed x)) ≡ 0
       go false i = rw i
       go true i =
           let e : isCondition (place x) ≡ false = rw i at (sym (waiting-is n (reading ws) place stands x (real-at x)) ∙ w) in
-          let t = own x i .idle (no-condition (place x) e) in
+          let t = own x i .idle (no-condition (place x) e) .0 in
           rw i (omega arith)
+
+  timers-at : (x : ℕ) → partsOf n ws (kept (armed x)) ≡ 0 → partsOf n ws (kept (timer x)) ≡ 0
+  timers-at x a = go (inside P x) refl
+    where
+      go : (b : Bool) → inside P x ≡ b → partsOf n ws (kept (timer x)) ≡ 0
+      go false i = rw i
+      go true i = let t = flag-timer _ _ _ _ (own x i) (rw i at a) in rw i (omega arith)
 
   blocked-at : (l x : ℕ) → member x (reading ws (lock l)) ≡ true → partsOf n ws (kept (failed x)) ≡ 1
   blocked-at l x m = let k = there x (lock l) m .1 in let f = record-fits x 1 (k .fits) .blocked refl in rw (k .within) (omega arith)
 
   asleep-at : (c x : ℕ) → member x (reading ws (condition c)) ≡ true → partsOf n ws (kept (failed x)) ≡ 0
-  asleep-at c x m = let k = there x (condition c) m .1 in let f = record-fits x 2 (k .fits) .waits refl in rw (k .within) (omega arith)
+  asleep-at c x m = let k = there x (condition c) m .1 in let f = record-fits x 2 (k .fits) .waits refl .1 in rw (k .within) (omega arith)
 
   holders-at : (l : ℕ) → member (partsOf n ws (kept (holder l))) (reading ws (lock l)) ≡ false
   holders-at l = go (member (partsOf n ws (kept (holder l))) (reading ws (lock l))) refl
@@ -371,6 +390,7 @@ module _ (ws : List ℕ) (small : Words ws) (W : Whole ws) where
       placed = record { counts = counts-are; range = range-at; place = place; real = real-at; once = stands; falls = falls-at };
       runs = runs-at;
       steady = steady-at;
+      arms = arms-at;
       timers = timers-at;
       blocked = blocked-at;
       asleep = asleep-at;

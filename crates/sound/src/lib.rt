@@ -4,28 +4,30 @@ use members::BROKEN;
 ghost use mathlib.Core.Path.{_≡_};
 ghost use mathlib.Core.Bool.{true};
 ghost use mathlib.Core.List.{List};
-ghost use Prim.Native.Nat.{ℕ, _*_, _≤_, _<_};
+ghost use mathlib.Core.Option.{some};
+ghost use Prim.Native.Nat.{ℕ, _+_, _*_, _≤_, _<_};
 ghost use lib.ListN.{length};
 ghost use Rattle.area.specs.Sound.{Sound};
 ghost use Rattle.heads.specs.Heads.{headAt};
 ghost use Rattle.members.specs.Walk.{Met, Told};
 ghost use Rattle.sound.specs.Passed.{passed};
 
-// Walks the rings of the queues of a kind, `number` of them, whose words stand first in `heads`. The answer is as walk's.
+// Walks the rings of the queues of a kind, `number` of them, whose words stand first in `heads`; the first `from` of them are passed already. The answer is as walk's.
 fn rings(
     heads: &[u16],
     records: &[u16],
     processes: u16,
     kind: u16,
+    from: usize,
     number: usize,
     count: usize,
     marks: &mut [u64; 16],
 ) -> usize
-    requires { ⌜ (processes < 1024) × (3 * processes ≤ length (now records)) × (number < 1024) × (headAt kind number ≤ length (now heads)) ⌝ }
-    ensures { λ r. ⌜ ((js : List ℕ) → Met processes (now (marks .entry)) js count → Told processes r (now (marks .exit)) (passed (now (heads .entry)) (now (records .entry)) processes kind number js)) ⌝ }
+    requires { ⌜ (processes < 1024) × (3 * processes ≤ length (now records)) × (number < 1024) × (headAt kind number ≤ length (now heads)) × (from ≤ number) ⌝ }
+    ensures { λ r. ⌜ ((js is : List ℕ) → passed (now (heads .entry)) (now (records .entry)) processes kind from js ≡ some is → Met processes (now (marks .entry)) is count → Told processes r (now (marks .exit)) (passed (now (heads .entry)) (now (records .entry)) processes kind number js)) ⌝ }
 {
     let mut found = count;
-    let mut i = 0;
+    let mut i = from;
     while i < number {
         let at = heads::head_at(kind, i);
         let w = heads[at];
@@ -58,6 +60,45 @@ fn rings(
     found
 }
 
+// Walks the ring of ready, and then those of the parks. That ready is walked by itself lets a compiler make a walk for each kind of queue: a function that is called once it copies in before it knows the kind.
+fn plain(
+    heads: &[u16],
+    records: &[u16],
+    processes: u16,
+    parks: usize,
+    marks: &mut [u64; 16],
+) -> usize
+    requires { ⌜ (processes < 1024) × (3 * processes ≤ length (now records)) × (1 + parks < 1024) × (headAt 0 (1 + parks) ≤ length (now heads)) ⌝ }
+    ensures { λ r. ⌜ ((js : List ℕ) → Met processes (now (marks .entry)) js 0 → Told processes r (now (marks .exit)) (passed (now (heads .entry)) (now (records .entry)) processes 0 (1 + parks) js)) ⌝ }
+{
+    let w = heads[0];
+    if !heads::in_order(processes & links::MASK, heads::PLAIN, w, 0) {
+        return BROKEN;
+    }
+    let ready = members::walk(
+        records,
+        processes as usize,
+        heads::PLAIN,
+        0,
+        links::next_field(w) as usize,
+        0,
+        marks,
+    );
+    if ready == BROKEN {
+        return BROKEN;
+    }
+    rings(
+        heads,
+        records,
+        processes,
+        heads::PLAIN,
+        1,
+        1 + parks,
+        ready,
+        marks,
+    )
+}
+
 // Whether an area is sound. The locks come last: their rings take the most code, and a compiler copies a long function in at its last call.
 pub fn sound(words: &[u16]) -> bool
     ensures { λ r. ⌜ (r ≡ true → Sound (now (words .entry))) × (Sound (now (words .entry)) → r ≡ true) ⌝ }
@@ -71,13 +112,11 @@ pub fn sound(words: &[u16]) -> bool
     let first_record = area::records_at(shape);
     let records = &area[first_record..];
     let mut marks = [0u64; 16];
-    let plain = rings(
+    let plain = plain(
         &area[layout::READY..],
         records,
         shape.processes,
-        heads::PLAIN,
-        1 + shape.parks as usize,
-        0,
+        shape.parks as usize,
         &mut marks,
     );
     if plain == BROKEN {
@@ -89,6 +128,7 @@ pub fn sound(words: &[u16]) -> bool
         records,
         shape.processes,
         heads::CONDITION,
+        0,
         shape.conditions as usize,
         plain,
         &mut marks,
@@ -102,6 +142,7 @@ pub fn sound(words: &[u16]) -> bool
         records,
         shape.processes,
         heads::LOCK,
+        0,
         shape.locks as usize,
         waiting,
         &mut marks,

@@ -17,7 +17,7 @@ use Rattle.model.specs.declared.Answer.{Answer}
 use Rattle.model.specs.Queue.{Queue, anyOf}
 use Rattle.model.specs.Queue.Queue.{ready, park, lock, condition}
 use Rattle.model.specs.Field.{Field}
-use Rattle.model.specs.Field.Field.{clock, running, priority, timer, failed, holder, wakeup}
+use Rattle.model.specs.Field.Field.{clock, running, priority, armed, timer, failed, holder, wakeup}
 use Rattle.model.specs.Rules.{counted, anyAbove, startCode, fresh}
 use Rattle.model.specs.Machine.{model, start, refusal}
 use Rattle.model.proofs.Tests.{holds, fails, LeCase, leb-case}
@@ -116,6 +116,7 @@ fresh-none clock = refl
 fresh-none running = refl
 fresh-none (priority zero) = refl
 fresh-none (priority (suc p)) = refl
+fresh-none (armed p) = refl
 fresh-none (timer p) = refl
 fresh-none (failed p) = refl
 fresh-none (holder l) = refl
@@ -132,6 +133,7 @@ span-some : (f : Part) → 0 < span f
 span-some (kept clock) = omega arith
 span-some (kept running) = omega arith
 span-some (kept (priority p)) = omega arith
+span-some (kept (armed p)) = omega arith
 span-some (kept (timer p)) = omega arith
 span-some (kept (failed p)) = omega arith
 span-some (kept (holder l)) = omega arith

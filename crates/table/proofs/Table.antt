@@ -16,8 +16,8 @@ use Rattle.model.specs.Queue.{All}
 use Rattle.model.specs.Field.Field.{clock, priority, timer, holder}
 use Rattle.model.specs.Rules.{when, choose, nakedly, decide}
 use Rattle.model.specs.Machine.{State, model, fieldsOf, step, start, refusal}
-use Rattle.model.specs.Valid.{Valid}
 use Rattle.model.specs.History.{replies}
+use Rattle.model.proofs.Kept.{valid-clock}
 use Rattle.model.specs.Table as tables
 use Rattle.model.specs.Table.{one, sample, bytes}
 use Rattle.model.specs.Table.Question.{code, lines, stores}
@@ -57,20 +57,6 @@ module _ {n : Shape} {ws : List ℕ} {s : State model} (K : Keeps n ws s) (v : �
   not-holder : (l : ℕ) → clock ≢ holder l
   not-holder l e = let z : _≡_ {A = ℕ} 0 1 = cc in omega arith
 
-  clock-valid : Valid n (with clock v s)
-  clock-valid =
-      let held = K .valid in
-      record {
-        placed = placed-with n s clock v (held .placed) h not-priority;
-        runs = held .runs;
-        steady = held .steady;
-        timers = held .timers;
-        blocked = held .blocked;
-        asleep = held .asleep;
-        holders = held .holders;
-        wakeups = held .wakeups;
-      }
-
   clock-stored : Stored n ws (set ws 3 v) (alter (kept clock) v (laid n s))
   clock-stored =
       let w : getD ws 3 0 < 65536 = rw (K .image .words Clock refl) (K .image .spans (kept clock) refl) in
@@ -79,7 +65,7 @@ module _ {n : Shape} {ws : List ℕ} {s : State model} (K : Keeps n ws s) (v : �
   clock-keeps : Keeps n (set ws 3 v) (with clock v s)
   clock-keeps =
       let now : areas.Holds n ws s = record { placed = K .valid .placed; image = K .image } in
-      record { valid = clock-valid; image = becomes-with now clock v h not-priority not-holder clock-stored .holds .image }
+      record { valid = valid-clock (placed-with n s clock v (K .valid .placed) h not-priority) (K .valid); image = becomes-with now clock v h not-priority not-holder clock-stored .holds .image }
 
 -- ---- areas of zeros
 

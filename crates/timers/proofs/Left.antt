@@ -1,4 +1,4 @@
--- A process's ticks left, by the words read of it: none where the timer is 0, since whoever has another timer waits; else the ticks to the timer, a full round where it is at the clock.
+-- A process's ticks left, by the words read of it: none where it is not armed, since whoever is armed waits; else the ticks to its timer, a full round where it is at the clock.
 -- Assumes nothing.
 use Prim.Native.Nat.{ℕ, suc, _≤_, _<_}
 use native.Mathlib.Omega.{arith}
@@ -9,37 +9,37 @@ use lib.Dec.{eqb, leb, ltb}
 use Rattle.model.specs.declared.Shape.{Shape}
 use Rattle.model.specs.Queue.{inside}
 use Rattle.model.specs.Field.{some}
-use Rattle.model.specs.Field.Field.{clock, timer}
+use Rattle.model.specs.Field.Field.{clock, armed, timer}
 use Rattle.model.specs.Machine.{State, model, waiting}
 use Rattle.model.specs.Valid.{Valid}
 use Rattle.model.specs.Timers.{distance, ticksTo, left}
 use Rattle.model.proofs.Tests.{holds, fails, eqb-yes, eqb-no, LeCase, leb-case, leb-yes, leb-no, inside-bounds}
-use Rattle.model.proofs.Ticking.{left-timer}
+use Rattle.model.proofs.Ticking.{left-armed}
 use Rattle.order.specs.Order.{ahead}
 use Rattle.timers.specs.Telling.{fewer}
 
-module _ (n : Shape) (s : State model) (p : ℕ) {t : ℕ} (reads : t ≡ s .fields (timer p)) where
-  -- the timer is 0
-  pub left-none : t ≡ 0 → 0 ≡ left n s p
+module _ (n : Shape) (s : State model) (p : ℕ) {a : ℕ} (reads : a ≡ s .fields (armed p)) where
+  -- it is not armed
+  pub left-none : a ≡ 0 → 0 ≡ left n s p
   left-none e = rw (sym reads ∙ e, and-false)
 
-  -- the timer is set
-  left-set : Valid n s → t ≢ 0 → left n s p ≡ ticksTo (s .fields clock) (s .fields (timer p))
-  left-set v h = left-timer n s v p ∙ rw (eqb-no (s .fields (timer p)) 0 (λ e. h (reads ∙ e)))
+  -- it is
+  left-set : Valid n s → a ≢ 0 → left n s p ≡ ticksTo (s .fields clock) (s .fields (timer p))
+  left-set v h = left-armed n s v p ∙ rw (eqb-no (s .fields (armed p)) 0 (λ e. h (reads ∙ e)))
 
-  -- at the clock
-  pub left-round : Valid n s → {now : ℕ} → now ≡ s .fields clock → t ≢ 0 → {d : ℕ} → d ≡ ahead now s p → d ≡ 0 → 65536 ≡ left n s p
+  -- with its timer at the clock
+  pub left-round : Valid n s → {now : ℕ} → now ≡ s .fields clock → a ≢ 0 → {d : ℕ} → d ≡ ahead now s p → d ≡ 0 → 65536 ≡ left n s p
   left-round v c h far e = sym (left-set v h ∙ rw (eqb-yes (distance (s .fields clock) (s .fields (timer p))) 0 (rw (← c) (sym far ∙ e))))
 
   -- elsewhere
-  pub left-far : Valid n s → {now : ℕ} → now ≡ s .fields clock → t ≢ 0 → {d : ℕ} → d ≡ ahead now s p → d ≢ 0 → d ≡ left n s p
+  pub left-far : Valid n s → {now : ℕ} → now ≡ s .fields clock → a ≢ 0 → {d : ℕ} → d ≡ ahead now s p → d ≢ 0 → d ≡ left n s p
   left-far v c h far o = far ∙ rw c (sym (left-set v h ∙ rw (eqb-no (distance (s .fields clock) (s .fields (timer p))) 0 (λ e. o (far ∙ rw c e)))))
 
 -- ---- how many they can be
 
 -- those due within less than a round have the ticks to their timers left
 pub key-left : (n : Shape) (s : State model) {now k : ℕ} → now ≡ s .fields clock → k < 65536 → (p : ℕ) → inside k (left n s p) ≡ true → ahead now s p ≡ left n s p
-key-left n s {now} {k} c h p i = rw c (go (waiting n (s .queues) p && some (s .fields (timer p))) (distance (s .fields clock) (s .fields (timer p))) (inside-bounds k (left n s p) i))
+key-left n s {now} {k} c h p i = rw c (go (waiting n (s .queues) p && some (s .fields (armed p))) (distance (s .fields clock) (s .fields (timer p))) (inside-bounds k (left n s p) i))
   where
     go : (w : Bool) (d : ℕ) → (1 ≤ cond w (cond (eqb d 0) 65536 d) 0) × (cond w (cond (eqb d 0) 65536 d) 0 ≤ k) → d ≡ cond w (cond (eqb d 0) 65536 d) 0
     go true d b = round (eqb d 0) (b .1)
@@ -51,7 +51,7 @@ key-left n s {now} {k} c h p i = rw c (go (waiting n (s .queues) p && some (s .f
 
 -- ---- those due within k ticks
 
--- nobody is without a timer
+-- nobody is who has none left
 pub due-none : (k : ℕ) {d l : ℕ} → d ≡ l → d ≡ 0 → false ≡ inside k l
 due-none k {d} {l} e z = rw (eqb-yes l 0 (sym e ∙ z))
 

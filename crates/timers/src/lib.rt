@@ -17,7 +17,7 @@ ghost use Rattle.area.specs.Holds.{Holds};
 ghost use Rattle.area.specs.Calls.{Stands};
 ghost use Rattle.timers.specs.Telling.{dueOnes, fewer, Tells, nearestIn};
 
-// What is answered to who is the nearest: the code, the process, its ticks left. No process where no timer is set.
+// What is answered to who is the nearest: the code, the process, its ticks left. No process where nobody is armed.
 pub struct Earliest {
     pub code: u32,
     pub process: u32,
@@ -27,13 +27,13 @@ pub struct Earliest {
 // A full round of the clock.
 const ROUND: u32 = 65536;
 
-// p's ticks left, 0 where it has no timer.
+// p's ticks left, 0 where it is not armed.
 fn left_of(area: &[u16], shape: Shape, clock: u16, p: u16) -> u32
     requires { ⌜ Stands shape (now area) ⌝ }
     requires { ⌜ inside (shape .processes) p ≡ true ⌝ }
     ensures { λ r. ⌜ ((s : State model) → Holds shape (now (area .entry)) s → Valid shape s → clock ≡ s .fields clockField → r ≡ left shape s p) ⌝ }
 {
-    if area::get(area, places::timer(shape, p)) == 0 {
+    if area::get(area, places::armed(shape, p)) == 0 {
         return 0;
     }
     let left = order::ticks_ahead(area, shape, clock, p);

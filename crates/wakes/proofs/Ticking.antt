@@ -4,34 +4,39 @@ use Prim.Native.Nat.{ℕ, zero, suc, _+_, _-_, _%_, _≤_, _<_}
 use native.Mathlib.Decide.{ℕ-discrete}
 use native.Mathlib.Omega.{arith}
 use native.Mathlib.Numerals.{add-one}
+use borrow.Rule.Slice.PartMut.{midOf}
 use mathlib.Core.Path.{_≡_, refl, sym, ap, _∙_, subst}
-use mathlib.Core.Bool.{Bool, true, false, not, _&&_, true≢false}
+use mathlib.Core.Bool.{Bool, true, false, not, true≢false}
 use mathlib.Core.Logic.{_≢_}
 use mathlib.Core.List.{List, [], _∷_, _++_}
-use lib.Dec.{eqb}
 use lib.ListN.{length, getD}
 use Rattle.model.specs.declared.Shape.{Shape}
 use Rattle.model.specs.declared.Answer.{Answer}
 use Rattle.model.specs.declared.Call.the-variants.{Tick}
 use Rattle.model.specs.Queue.{Queue, inside, exists, upTo, isCondition, member, count, filter}
 use Rattle.model.specs.Queue.Queue.{ready, park, lock, condition}
-use Rattle.model.specs.Field.{Fields, put, some}
-use Rattle.model.specs.Field.Field.{clock, timer}
-use Rattle.model.specs.Rules.{calm, due, decide}
+use Rattle.model.specs.Field.{Fields, put}
+use Rattle.model.specs.Field.Field.{clock}
+use Rattle.model.specs.Rules.{calm, rings, due, decide}
 use Rattle.model.specs.Machine.{State, model, finish}
-use Rattle.model.specs.Valid.{Placed, Valid}
-use Rattle.model.proofs.Tests.{holds, fails, SameCase, same-case, EqCase, eqb-case, eqb-no, inside-bounds, bounds-inside, denied, not-true}
+use Rattle.model.specs.Valid.{Valid}
+use Rattle.model.proofs.Tests.{holds, fails, SameCase, same-case, inside-bounds, bounds-inside, denied, not-true}
 use Rattle.model.proofs.Lists.{filter-member, member-filter, upTo-member, member-upTo}
 use Rattle.model.proofs.Loops.{due-moved}
-use Rattle.model.proofs.Many.{without, filter-all, filter-none, filter-agree, filter-once, upTo-once}
+use Rattle.model.proofs.Many.{without, filter-all, filter-agree, filter-once, upTo-once}
+use Rattle.links.specs.Link as link
+use Rattle.links.specs.Link.{Stands}
 use Rattle.area.specs.Layout.{conditionsAt, recordsAt, at}
 use Rattle.area.specs.Layout.Slot.{Tail}
+use Rattle.area.specs.State.{laid}
 use Rattle.area.specs.Holds.{Holds, Becomes, with, Gives}
 use Rattle.area.specs.Loose.{Loose}
 use Rattle.crowds.specs.Crowds.{swept, staying, Crowd, Woken, ringing}
 use Rattle.area.specs.Calls.{Does}
 use Rattle.area.proofs.Puts.{becomes-none}
 use Rattle.area.proofs.Rings.{member-inside, queue-none}
+use Rattle.area.proofs.Records.{records-stand, rings-said}
+use Rattle.moves.proofs.Relinks.{lent}
 use Rattle.moves.proofs.Loose.{waits-in}
 use Rattle.outcomes.proofs.Outcomes.{accepts-ready}
 use Rattle.crowds.proofs.Leaving.{loose-empty}
@@ -42,7 +47,7 @@ use Rattle.wakes.proofs.Waking.{woken, woken-becomes}
 module _ (f : Fields) (time : ℕ) (qs : Queue → List ℕ) where
   -- who stays where it is
   abbrev stays : ℕ → Bool
-  stays x = not (eqb (f (timer x)) time)
+  stays x = not (rings f time x)
 
   filter-twice : (xs : List ℕ) → filter stays (filter stays xs) ≡ filter stays xs
   filter-twice xs = filter-all stays (filter stays xs) (λ x m. filter-member stays x xs m .1)
@@ -108,70 +113,58 @@ sweep-skips {n} {old} {new} {f} qs time k from j e a b low L = go (j - condition
 
 -- ---- those who ring
 
-module _ {n : Shape} {s : State model} (v : Valid n s) {time : ℕ} (some-time : time ≢ 0) where
+module _ {n : Shape} {s : State model} (v : Valid n s) (time : ℕ) where
   -- nobody rings who waits in no condition
-  still : (q : Queue) (x : ℕ) → isCondition q ≡ false → member x (s .queues q) ≡ true → eqb (s .fields (timer x)) time ≡ false
-  still q x c m = eqb-no (s .fields (timer x)) time (λ e. some-time (sym e ∙ v .timers x (waits-in n s (v .placed) q x m ∙ c)))
+  still : (q : Queue) (x : ℕ) → isCondition q ≡ false → member x (s .queues q) ≡ true → rings (s .fields) time x ≡ false
+  still q x c m = rw (v .arms x (waits-in n s (v .placed) q x m ∙ c))
 
   -- so no other queue is left by anybody
-  calm-queue : (q : Queue) → isCondition q ≡ false → staying (s .fields) time (n .conditions) (s .queues) q ≡ filter (λ x. not (eqb (s .fields (timer x)) time)) (s .queues q)
+  calm-queue : (q : Queue) → isCondition q ≡ false → staying (s .fields) time (n .conditions) (s .queues) q ≡ filter (λ x. not (rings (s .fields) time x)) (s .queues q)
   calm-queue q c =
-      let h = filter-all (λ x. not (eqb (s .fields (timer x)) time)) (s .queues q) (λ x m. rw (still q x c m)) in
+      let h = filter-all (λ x. not (rings (s .fields) time x)) (s .queues q) (λ x m. rw (still q x c m)) in
       staying-same (s .fields) time (s .queues) (n .conditions) q h ∙ sym h
 
   -- and each is left by those who ring
-  pub stays-all : (q : Queue) → staying (s .fields) time (n .conditions) (s .queues) q ≡ filter (λ x. not (eqb (s .fields (timer x)) time)) (s .queues q)
+  pub stays-all : (q : Queue) → staying (s .fields) time (n .conditions) (s .queues) q ≡ filter (λ x. not (rings (s .fields) time x)) (s .queues q)
   stays-all ready = calm-queue ready refl
   stays-all (park k) = calm-queue (park k) refl
   stays-all (lock l) = calm-queue (lock l) refl
   stays-all (condition c) = go (inside (n .conditions) c) refl
     where
-      go : (b : Bool) → inside (n .conditions) c ≡ b → staying (s .fields) time (n .conditions) (s .queues) (condition c) ≡ filter (λ x. not (eqb (s .fields (timer x)) time)) (s .queues (condition c))
+      go : (b : Bool) → inside (n .conditions) c ≡ b → staying (s .fields) time (n .conditions) (s .queues) (condition c) ≡ filter (λ x. not (rings (s .fields) time x)) (s .queues (condition c))
       go true i = staying-swept (s .fields) time (s .queues) (n .conditions) c i
       go false i =
           let e : s .queues (condition c) ≡ [] = queue-none n s (v .placed) (condition c) i in
-          let h : filter (λ x. not (eqb (s .fields (timer x)) time)) (s .queues (condition c)) ≡ s .queues (condition c) = rw e in
+          let h : filter (λ x. not (rings (s .fields) time x)) (s .queues (condition c)) ≡ s .queues (condition c) = rw e in
           staying-same (s .fields) time (s .queues) (n .conditions) (condition c) h ∙ sym h
 
--- those of the rule, at a time that is not 0
-pub due-ringing : (n : Shape) (f : Fields) {time : ℕ} → time ≢ 0 → due n f time ≡ ringing f time (n .processes)
-due-ringing n f {time} h = filter-agree (λ p. some (f (timer p)) && eqb (f (timer p)) time) (λ p. eqb (f (timer p)) time) (upTo (n .processes)) (λ p m. go (f (timer p)) (eqb-case (f (timer p)) time))
-  where
-    go : (t : ℕ) → EqCase t time → some t && eqb t time ≡ eqb t time
-    go t (holds e z) = rw (z, eqb-no t 0 (λ y. h (sym e ∙ y)))
-    go t (fails e z) = rw z (none (some t))
-      where
-        none : (b : Bool) → b && false ≡ false
-        none true = refl
-        none false = refl
-
 -- whether one of the processes rings
-rings-is : (f : Fields) (time P x : ℕ) → inside P x ≡ true → member x (ringing f time P) ≡ eqb (f (timer x)) time
-rings-is f time P x i = go (eqb (f (timer x)) time) refl
+rings-is : (f : Fields) (time P x : ℕ) → inside P x ≡ true → member x (ringing f time P) ≡ rings f time x
+rings-is f time P x i = go (rings f time x) refl
   where
-    go : (b : Bool) → eqb (f (timer x)) time ≡ b → member x (ringing f time P) ≡ b
-    go true e = member-filter (λ y. eqb (f (timer y)) time) x (upTo P) (member-upTo P x i) e
-    go false e = denied (member x (ringing f time P)) (λ m. true≢false (sym (filter-member (λ y. eqb (f (timer y)) time) x (upTo P) m .1) ∙ e))
+    go : (b : Bool) → rings f time x ≡ b → member x (ringing f time P) ≡ b
+    go true e = member-filter (rings f time) x (upTo P) (member-upTo P x i) e
+    go false e = denied (member x (ringing f time P)) (λ m. true≢false (sym (filter-member (rings f time) x (upTo P) m .1) ∙ e))
 
-module _ {n : Shape} {old mid : List ℕ} {s : State model} (H : Holds n old s) (v : Valid n s) {time : ℕ} (some-time : time ≢ 0)
+module _ {n : Shape} {old mid : List ℕ} {s : State model} (H : Holds n old s) (v : Valid n s) (time : ℕ)
     (L : Loose n old mid (s .fields) (staying (s .fields) time (n .conditions) (s .queues))) where
   abbrev ps : List ℕ
   ps = ringing (s .fields) time (n .processes)
 
   pub ringer : (p : ℕ) → member p ps ≡ true → inside (n .processes) p ≡ true
-  ringer p m = upTo-member (n .processes) p (filter-member (λ x. eqb (s .fields (timer x)) time) p (upTo (n .processes)) m .0)
+  ringer p m = upTo-member (n .processes) p (filter-member (rings (s .fields) time) p (upTo (n .processes)) m .0)
 
-  pub ringer-once : (p : ℕ) → member p ps ≡ true → eqb (s .fields (timer p)) time ≡ true
-  ringer-once p m = filter-member (λ x. eqb (s .fields (timer x)) time) p (upTo (n .processes)) m .1
+  pub ringer-once : (p : ℕ) → member p ps ≡ true → rings (s .fields) time p ≡ true
+  ringer-once p m = filter-member (rings (s .fields) time) p (upTo (n .processes)) m .1
 
   pub ringer-out : (p : ℕ) (q : Queue) → member p ps ≡ true → member p (staying (s .fields) time (n .conditions) (s .queues) q) ≡ false
   ringer-out p q m =
-      rw (stays-all v some-time q)
-      (denied (member p (filter (λ x. not (eqb (s .fields (timer x)) time)) (s .queues q)))
-      (λ k. true≢false (sym (ringer-once p m) ∙ not-true (eqb (s .fields (timer p)) time) (filter-member (λ x. not (eqb (s .fields (timer x)) time)) p (s .queues q) k .1))))
+      rw (stays-all v time q)
+      (denied (member p (filter (λ x. not (rings (s .fields) time x)) (s .queues q)))
+      (λ k. true≢false (sym (ringer-once p m) ∙ not-true (rings (s .fields) time p) (filter-member (λ x. not (rings (s .fields) time x)) p (s .queues q) k .1))))
 
   pub ringers-distinct : (p : ℕ) → count p ps ≤ 1
-  ringers-distinct p = omega (arith, filter-once (λ x. eqb (s .fields (timer x)) time) p (upTo (n .processes)), upTo-once (n .processes) p)
+  ringers-distinct p = omega (arith, filter-once (rings (s .fields) time) p (upTo (n .processes)), upTo-once (n .processes) p)
 
   abbrev pub ringers-wake : Crowd n mid ps
   ringers-wake = record {
@@ -187,59 +180,40 @@ module _ {n : Shape} {old mid : List ℕ} {s : State model} (H : Holds n old s) 
   pub ringers-woken : {new : List ℕ} → Woken n mid ps ringers-wake new → Becomes n old new (woken ps s)
   ringers-woken =
       woken-becomes H ps (staying (s .fields) time (n .conditions) (s .queues)) ringers-distinct ringer
-      (λ p m. rw (← stays-ready) (ringer-out p ready m)) stays-ready (λ q o. stays-all v some-time q ∙ left q)
+      (λ p m. rw (← stays-ready) (ringer-out p ready m)) stays-ready (λ q o. stays-all v time q ∙ left q)
     where
-      left : (q : Queue) → filter (λ x. not (eqb (s .fields (timer x)) time)) (s .queues q) ≡ without ps (s .queues q)
-      left q = filter-agree (λ x. not (eqb (s .fields (timer x)) time)) (λ x. not (member x ps)) (s .queues q)
+      left : (q : Queue) → filter (λ x. not (rings (s .fields) time x)) (s .queues q) ≡ without ps (s .queues q)
+      left q = filter-agree (λ x. not (rings (s .fields) time x)) (λ x. not (member x ps)) (s .queues q)
           (λ x m. ap not (sym (rings-is (s .fields) time (n .processes) x (member-inside n s (H .placed) x q m))))
 
       stays-ready : staying (s .fields) time (n .conditions) (s .queues) ready ≡ s .queues ready
-      stays-ready = stays-all v some-time ready ∙ filter-all (λ x. not (eqb (s .fields (timer x)) time)) (s .queues ready) (λ x m. rw (still v some-time ready x refl m))
+      stays-ready = stays-all v time ready ∙ filter-all (λ x. not (rings (s .fields) time x)) (s .queues ready) (λ x m. rw (still v time ready x refl m))
 
 -- nobody rings
 pub none-ring : {n : Shape} {old : List ℕ} {s : State model} (now : ℕ) → Holds n old s → due n (s .fields) now ≡ []
     → (0 ≡ length (due n (s .fields) now)) × Becomes n old old (woken (due n (s .fields) now) s)
 none-ring now H e = (rw e, rw e (becomes-none H))
 
--- at 0 nobody does
-pub none-at-zero : (n : Shape) (f : Fields) {now : ℕ} → now ≡ 0 → due n f now ≡ []
-none-at-zero n f {now} z = filter-none (λ p. some (f (timer p)) && eqb (f (timer p)) now) (upTo (n .processes)) (λ p m. at-zero (f (timer p)))
-  where
-    go : (b : Bool) → not b && b ≡ false
-    go true = refl
-    go false = refl
-
-    at-zero : (t : ℕ) → some t && eqb t now ≡ false
-    at-zero t = rw z (go (eqb t 0))
-
 -- ---- whether somebody rings
 
--- of those below p nobody does, and not p
-pub none-next : (f : Fields) (time p x : ℕ) → 1 ≤ p → x ≡ f (timer p) → x ≢ time → ringing f time (p - 1) ≡ [] → ringing f time (p + 1 - 1) ≡ []
-none-next f time zero x some reads h e = absurd (omega arith)
-none-next f time (suc k) x some reads h e = rw (let a : suc k + 1 - 1 ≡ suc k = omega arith in a) (skips (upTo k) ∙ rw (let a : suc k - 1 ≡ k = omega arith in a) at e)
-  where
-    own : eqb (f (timer (suc k))) time ≡ false
-    own = rw (← reads) (eqb-no x time h)
+-- a process stands in the records as they are lent, and rings there as it does in the state
+module _ {n : Shape} {ws : List ℕ} {s : State model} (H : Holds n ws s) {a : ℕ} (p : ℕ) (at-records : a ≡ recordsAt n) (i : inside (n .processes) p ≡ true) where
+  pub held-stands : Stands (midOf a (length ws - a) ws) p
+  held-stands = subst (λ (r : List ℕ). Stands r p) (sym (lent n ws at-records)) (records-stand n ws (laid n s) (H .image) p i)
 
-    skips : (xs : List ℕ) → filter (λ y. eqb (f (timer y)) time) (xs ++ (suc k ∷ [])) ≡ filter (λ y. eqb (f (timer y)) time) xs
+  pub held-rings : (time : ℕ) → link.rings (midOf a (length ws - a) ws) time p ≡ rings (s .fields) time p
+  held-rings time = ap (λ (r : List ℕ). link.rings r time p) (lent n ws at-records) ∙ rings-said n ws (laid n s) (H .image) p i time
+
+-- of those below p nobody does, and not p
+pub none-next : (f : Fields) (time p : ℕ) → 1 ≤ p → rings f time p ≡ false → ringing f time (p - 1) ≡ [] → ringing f time (p + 1 - 1) ≡ []
+none-next f time zero some own e = absurd (omega arith)
+none-next f time (suc k) some own e = rw (let a : suc k + 1 - 1 ≡ suc k = omega arith in a) (skips (upTo k) ∙ rw (let a : suc k - 1 ≡ k = omega arith in a) at e)
+  where
+    skips : (xs : List ℕ) → filter (rings f time) (xs ++ (suc k ∷ [])) ≡ filter (rings f time) xs
     skips [] = rw own
     skips (y ∷ ys) = rw (skips ys)
 
 -- ---- the call
-
--- no clause but the range of the clock goes by it
-pub valid-clock : {n : Shape} {s : State model} {v : ℕ} → Placed n (with clock v s) → Valid n s → Valid n (with clock v s)
-valid-clock P w = record {
-  placed = P;
-  runs = w .runs;
-  steady = w .steady;
-  timers = w .timers;
-  blocked = w .blocked;
-  asleep = w .asleep;
-  holders = w .holders;
-  wakeups = w .wakeups;
-}
 
 pub ticks : {n : Shape} {old mid new : List ℕ} {s : State model} {before now m : ℕ} {a : Answer} → Holds n old s → Valid n s → before ≡ s .fields clock → now ≡ (before + 1) % 65536
     → m ≡ length (due n (s .fields) now) → Becomes n old mid (woken (due n (s .fields) now) (with clock now s))

@@ -15,19 +15,19 @@ ghost use Rattle.model.specs.Machine.{State, model};
 ghost use Rattle.model.specs.Valid.{Valid};
 ghost use Rattle.area.specs.Holds.{Holds, Held, Becomes};
 ghost use Rattle.area.specs.Loose.{Loose};
-ghost use Rattle.crowds.specs.Crowds.{staying, ringing};
+ghost use Rattle.crowds.specs.Crowds.{staying};
 ghost use Rattle.area.specs.Calls.{Stands, Does, changed};
 
-// Whether nobody's timer is at this time.
+// Whether nobody's timer rings at this time.
 fn nobody_due(area: &[u16], shape: Shape, time: u16) -> bool
     requires { ⌜ Held shape (now area) ⌝ }
-    ensures { λ r. ⌜ ((s : State model) → Holds shape (now (area .entry)) s → r ≡ true → ringing (s .fields) time (shape .processes) ≡ []) ⌝ }
+    ensures { λ r. ⌜ ((s : State model) → Holds shape (now (area .entry)) s → r ≡ true → due shape (s .fields) time ≡ []) ⌝ }
 {
     let at = area::records_at(shape);
     let processes = shape.processes;
     let mut p: u16 = 1;
     while p <= processes {
-        if area::timer_in(&area[at..], p) == time {
+        if links::rings(&area[at..], p, time) {
             return false;
         }
         p += 1;
@@ -47,7 +47,7 @@ fn next_waited(area: &[u16], from: usize, end: usize) -> usize
     i
 }
 
-// Those whose timer is at this time leave their conditions.
+// Those whose timer rings at this time leave their conditions.
 fn sweep_all(area: &mut [u16], shape: Shape, time: u16)
     requires { ⌜ Held shape (now area) ⌝ }
     ensures { λ _. ⌜ ((s : State model) → Holds shape (now (area .entry)) s → Loose shape (now (area .entry)) (now (area .exit)) (s .fields) (staying (s .fields) time (shape .conditions) (s .queues))) ⌝ }
@@ -60,14 +60,11 @@ fn sweep_all(area: &mut [u16], shape: Shape, time: u16)
     }
 }
 
-// Each process whose timer rings now wakes, in process order. The answer is how many.
+// Each process whose timer rings at this time wakes, in process order. The answer is how many.
 fn wake_due(area: &mut [u16], shape: Shape, time: u16) -> u16
     requires { ⌜ Stands shape (now area) ⌝ }
     ensures { λ r. ⌜ ((s : State model) → Holds shape (now (area .entry)) s → Valid shape s → (r ≡ length (due shape (s .fields) time)) × Becomes shape (now (area .entry)) (now (area .exit)) (changed (calm (due shape (s .fields) time) (s .fields)) (toReady (due shape (s .fields) time)) s)) ⌝ }
 {
-    if time == 0 {
-        return 0;
-    }
     if nobody_due(area, shape, time) {
         return 0;
     }

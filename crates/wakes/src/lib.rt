@@ -22,7 +22,7 @@ ghost use Rattle.area.specs.Calls.{Stands, Does, changed};
 
 pub mod clock;
 
-// The first of the condition wakes, if there is one: it moves to ready, and its timer is 0. The answer is how many.
+// The first of the condition wakes, if there is one: it moves to ready, its timer is 0, and it is no longer armed. The answer is how many.
 fn wake_first(area: &mut [u16], shape: Shape, condition: u16) -> u16
     requires { ⌜ Held shape (now area) ⌝ }
     requires { ⌜ inside (shape .conditions) condition ≡ true ⌝ }
@@ -37,6 +37,7 @@ fn wake_first(area: &mut [u16], shape: Shape, condition: u16) -> u16
     let base = area::records_at(shape);
     moves::send(area, base, from, to, first);
     area::put(area, places::timer(shape, first), 0);
+    area::put(area, places::armed(shape, first), 0);
     1
 }
 

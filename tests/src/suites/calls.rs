@@ -4,7 +4,7 @@
 
 use super::{ledger, sheet, timers, Outcome, Tally};
 use crate::call::{Answer, Call};
-use crate::damage::{self, BREAKS};
+use crate::damage;
 use crate::guarded::Guarded;
 use crate::history;
 use crate::library;
@@ -182,20 +182,7 @@ fn damaged_areas(tally: &mut Tally, random: &mut Random) -> Outcome {
     let mut refused = 0;
     for round in 0..100_000 {
         let shape = sample::small_shape(random);
-        let mut state = sample::state(random, shape);
-        let (_, change) = BREAKS[round % BREAKS.len()];
-        let _ = change(random, &mut state);
-        let mut words = state.words();
-        if random.chance(30) {
-            damage::blind(random, &shape, &mut words);
-        }
-        if random.chance(5) {
-            words.truncate(random.below(words.len()));
-        }
-        if random.chance(2) {
-            words = damage::wrong_count(random);
-        }
-        let mut lent = Guarded::new(&words);
+        let mut lent = Guarded::new(&damage::area(random, shape, round, 30));
         let call = history::any_call(random, &shape, 8);
         let answer = compare(tally, &mut lent, &call)?;
         refused += u64::from(answer.code == 1);

@@ -14,6 +14,15 @@ use crate::sample;
 /// Does a call on the area under test and answers it, with what else there is to compare.
 pub type Perform = fn(&mut Tally, &mut Guarded, &Call) -> Result<Answer, String>;
 
+/// A history to be: its counts, what the clock says before the first call, how many calls there
+/// are, and how many of a hundred are Ticks whatever the mood.
+struct Plan {
+    shape: Shape,
+    clock: u16,
+    calls: usize,
+    ticks: usize,
+}
+
 /// A history on an area and in the ledger, side by side.
 struct Run {
     area: Guarded,
@@ -28,36 +37,59 @@ pub fn run(tally: &mut Tally, random: &mut Random) -> Outcome {
     })
 }
 
-/// Histories of all kinds: small ones, ones that crowd a lock, one of the greatest size, and
-/// ones in which the clock goes round while timers are set.
+/// Histories of all kinds: small ones, ones near the clock's end, ones that crowd a lock, one of
+/// the greatest size, and ones in which the clock goes round while timers are set.
 pub fn histories(tally: &mut Tally, random: &mut Random, perform: Perform) -> Outcome {
     let mut coverage = Coverage::default();
     for _ in 0..600 {
-        let shape = sample::small_shape(random);
-        history(tally, random, perform, shape, 250, 0, &mut coverage)?;
+        let small = Plan {
+            shape: sample::small_shape(random),
+            clock: 0,
+            calls: 250,
+            ticks: 0,
+        };
+        history(tally, random, perform, &small, &mut coverage)?;
+    }
+    for _ in 0..1_200 {
+        let processes = random.between(3, 8);
+        let late = Plan {
+            shape: shape(processes, 1, 2, 1),
+            clock: random.between(65_506, 65_535),
+            calls: 100,
+            ticks: 20,
+        };
+        history(tally, random, perform, &late, &mut coverage)?;
     }
     for _ in 0..10 {
         let processes = random.between(44, 48);
-        let crowd = shape(processes, 2, 2, 2);
-        history(tally, random, perform, crowd, 600, 0, &mut coverage)?;
+        let crowd = Plan {
+            shape: shape(processes, 2, 2, 2),
+            clock: 0,
+            calls: 600,
+            ticks: 0,
+        };
+        history(tally, random, perform, &crowd, &mut coverage)?;
     }
-    let greatest = shape(1023, 255, 255, 8);
-    history(tally, random, perform, greatest, 100, 0, &mut coverage)?;
+    let greatest = Plan {
+        shape: shape(1023, 255, 255, 8),
+        clock: 0,
+        calls: 100,
+        ticks: 0,
+    };
+    history(tally, random, perform, &greatest, &mut coverage)?;
     coverage.demand_all()?;
     if coverage.longest_lock_queue < 40 {
         return Err("no lock had forty processes".to_string());
     }
     let mut coverage = Coverage::default();
     for _ in 0..3 {
-        history(
-            tally,
-            random,
-            perform,
-            shape(7, 1, 2, 1),
-            85_000,
-            94,
-            &mut coverage,
-        )?;
+        let long = Plan {
+            shape: shape(7, 1, 2, 1),
+            clock: 0,
+            calls: 85_000,
+            ticks: 94,
+        };
+        history(tally, random, perform, &long, &mut coverage)?;
     }
     coverage.demand_round()
 }
@@ -75,20 +107,20 @@ fn history(
     tally: &mut Tally,
     random: &mut Random,
     perform: Perform,
-    shape: Shape,
-    calls: usize,
-    ticks: usize,
+    plan: &Plan,
     coverage: &mut Coverage,
 ) -> Outcome {
-    let start = history::start(random, shape);
+    let start = history::start(random, plan.shape);
     let beyond = random.below(9);
-    let area = Guarded::new(&random.words(shape.size() + beyond));
+    let area = Guarded::new(&random.words(plan.shape.size() + beyond));
     let mut run = begin(tally, perform, area, &start)?;
-    let mut history = History::new(15, ticks);
+    let clock = plan.clock;
+    run.set_clock(clock);
+    let mut history = History::new(15, plan.ticks);
     let mut state = sound_state(run.area.slice())?;
-    for step in 1..=calls {
+    for step in 1..=plan.calls {
         let call = history.next(random, &state);
-        let place = || format!("call {step} {call:?} after {start:?}");
+        let place = || format!("call {step} {call:?} after {start:?}, clock {clock}");
         let answer = perform(tally, &mut run.area, &call)?;
         tally.same(&answer, &run.ledger.call(&call), place)?;
         let after = sound_state(run.area.slice())?;
@@ -127,6 +159,12 @@ fn sound_state(area: &[u16]) -> Result<State, String> {
 }
 
 impl Run {
+    /// As so many Ticks right after Start do: nobody waits, and nothing but the clock changes.
+    fn set_clock(&mut self, clock: u16) {
+        self.area.slice_mut()[3] = clock;
+        self.ledger.clock = clock;
+    }
+
     fn count(&mut self, call: &Call, answer: &Answer) {
         match *call {
             Call::Enter(lock) if answer.mark == 1 => self.entries[usize::from(lock) - 1] += 1,
@@ -190,10 +228,17 @@ fn agree(
     })?;
     for process in 1..=state.shape.processes {
         let (record, at) = (state.record(process), usize::from(process));
-        let found = (record.priority, record.timer, record.failed, record.waiting);
+        let found = (
+            record.priority,
+            record.timer,
+            record.armed,
+            record.failed,
+            record.waiting,
+        );
         let expected = (
             ledger.priority[at],
             ledger.timer[at],
+            ledger.armed[at],
             ledger.failed[at],
             ledger.waiting(process),
         );

@@ -3,7 +3,7 @@
 
 use super::{Outcome, Tally};
 use crate::call::pack;
-use crate::damage::{self, BREAKS};
+use crate::damage;
 use crate::guarded::Guarded;
 use crate::library;
 use crate::random::Random;
@@ -34,14 +34,7 @@ pub fn run(tally: &mut Tally, random: &mut Random) -> Outcome {
     }
     for round in 0..20_000 {
         let shape = sample::small_shape(random);
-        let mut state = sample::state(random, shape);
-        let (_, change) = BREAKS[round % BREAKS.len()];
-        let _ = change(random, &mut state);
-        let mut words = state.words();
-        damage::blind(random, &shape, &mut words);
-        if random.chance(2) {
-            words = damage::wrong_count(random);
-        }
+        let words = damage::area(random, shape, round, 100);
         let (kind, number) = (random.pick(&KINDS), random.pick(&NUMBERS));
         let length = random.below(16);
         compare(tally, random, &words, kind, number, length, &mut codes)?;

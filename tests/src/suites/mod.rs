@@ -7,6 +7,7 @@ pub mod ledger;
 pub mod list;
 pub mod rehearse;
 pub mod sheet;
+pub mod sleeps;
 pub mod sound;
 pub mod start;
 pub mod table;

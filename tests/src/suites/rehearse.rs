@@ -26,6 +26,7 @@ pub fn run(tally: &mut Tally, random: &mut Random) -> Outcome {
     compare(tally, b"\n")?;
     compare(tally, include_bytes!("../../../crates/rehearse/stdin"))?;
     long_lines(tally)?;
+    clock_end(tally)?;
     for _ in 0..60 {
         let script = script(random, 2_000);
         compare(tally, &script)?;
@@ -213,6 +214,16 @@ fn long_lines(tally: &mut Tally) -> Outcome {
         script.extend_from_slice(b"1\nexit 1\n");
     }
     compare(tally, &script)
+}
+
+/// All Ticks that lead to the clock's end, and there a wait of one tick and one without ticks.
+fn clock_end(tally: &mut Tally) -> Outcome {
+    let ticks = "tick\n".repeat(65_535);
+    let waits = "enter 1\nwait 1 1 1\nenter 1\nwait 1 1 0\ntick\ntick\n";
+    compare(
+        tally,
+        format!("start 3 1 1 0 2 5 2\n{ticks}{waits}").as_bytes(),
+    )
 }
 
 /// Each answer comes before the next line is written, as at a terminal.

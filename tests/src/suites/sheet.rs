@@ -4,7 +4,7 @@
 
 use super::{table, Outcome, Tally};
 use crate::call::pack_wide;
-use crate::damage::{self, BREAKS};
+use crate::damage;
 use crate::guarded::Guarded;
 use crate::library;
 use crate::random::Random;
@@ -390,21 +390,8 @@ fn long_slices(tally: &mut Tally, random: &mut Random, met: &mut Met) -> Outcome
 fn damaged_areas(tally: &mut Tally, random: &mut Random, met: &mut Met) -> Outcome {
     for round in 0..20_000 {
         let shape = sample::small_shape(random);
-        let mut state = sample::state(random, shape);
-        let (_, change) = BREAKS[round % BREAKS.len()];
-        let _ = change(random, &mut state);
-        let mut words = state.words();
-        if random.chance(50) {
-            damage::blind(random, &shape, &mut words);
-        }
-        if random.chance(5) {
-            words.truncate(random.below(words.len()));
-        }
-        if random.chance(2) {
-            words = damage::wrong_count(random);
-        }
+        let lent = Guarded::new(&damage::area(random, shape, round, 50));
         let need = ROW * shape.queues().len();
-        let lent = Guarded::new(&words);
         let lengths = [0, need - 1, need, need + ROW];
         Read::new(&lent).sheets(tally, random, lengths, met)?;
     }

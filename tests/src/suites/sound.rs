@@ -6,7 +6,7 @@ use crate::guarded::Guarded;
 use crate::history::{self, History};
 use crate::library;
 use crate::random::Random;
-use crate::reference::{self, Shape, State};
+use crate::reference::{self, Lock, Shape, State};
 use crate::sample;
 
 /// How often each verdict was given.
@@ -51,12 +51,15 @@ pub fn run(tally: &mut Tally, random: &mut Random) -> Outcome {
     };
     plain_areas(&mut check, random)?;
     short_areas(&mut check, random)?;
-    for state in reached_states(random) {
+    let mut states = reached_states(random);
+    states.push(each_place());
+    for state in states {
         every_bit(&mut check, &state)?;
         every_length(&mut check, random, &state)?;
         every_swap(&mut check, random, &state)?;
         some_damage(&mut check, random, &state, 2000)?;
     }
+    every_flags_word(&mut check)?;
     every_word(&mut check, random)?;
     every_ring(&mut check, random)?;
     scattered_states(&mut check, random)?;
@@ -84,9 +87,10 @@ fn short_areas(check: &mut Check, random: &mut Random) -> Outcome {
     for _ in 0..100_000 {
         let length = random.below(21);
         let mut area: Vec<u16> = (0..length)
-            .map(|_| match random.below(4) {
+            .map(|_| match random.below(5) {
                 0 | 1 => 0,
                 2 => random.between(0, 3) << 3,
+                3 => random.between(0, 3) << 1,
                 _ => random.between(0, 1) << 3 | random.between(0, 1) << random.below(16),
             })
             .collect();
@@ -136,9 +140,61 @@ fn reach(random: &mut Random, shape: Shape, calls: usize) -> State {
     reference::read(&area).expect("a history keeps the area sound")
 }
 
+/// 1 runs, 2 is ready, 3 is parked, 4 queues at the lock that 1 holds; the others wait: 5 unarmed,
+/// 6 armed with timer 0, 7 armed with another.
+fn each_place() -> State {
+    let shape = Shape {
+        processes: 7,
+        locks: 1,
+        conditions: 1,
+        parks: 1,
+    };
+    let mut state = State::fresh(shape, &[4; 7]);
+    state.clock = 65_530;
+    state.running = 1;
+    state.ready = vec![1, 2];
+    state.parks[0] = vec![3];
+    state.locks[0] = Lock {
+        queue: vec![4],
+        locked: true,
+        holder: 1,
+    };
+    state.conditions[0].queue = vec![5, 6, 7];
+    state.record_mut(4).failed = true;
+    for process in 5..=7 {
+        state.record_mut(process).waiting = true;
+    }
+    state.record_mut(6).arm(0);
+    state.record_mut(7).arm(65_531);
+    state
+}
+
+/// The flags with which each of them may stand there.
+const RIGHT_FLAGS: [&[u16]; 7] = [&[0], &[0], &[0], &[0], &[2, 6], &[2, 6], &[6]];
+
+/// Every value of every flags word, each bit flipped among them, with the verdict written out.
+fn every_flags_word(check: &mut Check) -> Outcome {
+    let state = each_place();
+    let mut lent = Guarded::new(&state.words());
+    for (process, right) in (1..).zip(RIGHT_FLAGS) {
+        let place = state.shape.link_at(process) + 1;
+        let kept = lent.slice()[place];
+        for word in 0..=u16::MAX {
+            lent.slice_mut()[place] = word;
+            let found = reference::sound(lent.slice());
+            check.tally.same(&found, &right.contains(&word), || {
+                format!("flags {word:x} of process {process}")
+            })?;
+            check.lent(&mut lent, "one flags word replaced")?;
+        }
+        lent.slice_mut()[place] = kept;
+    }
+    Ok(())
+}
+
 fn every_bit(check: &mut Check, state: &State) -> Outcome {
     let mut lent = Guarded::new(&state.words());
-    check.lent(&mut lent, "reached by a history")?;
+    check.lent(&mut lent, "whole")?;
     for place in 0..state.shape.size() {
         for bit in 0..16 {
             lent.slice_mut()[place] ^= 1 << bit;

@@ -150,12 +150,12 @@ fn timers(tally: &mut Tally, perform: Perform) -> Outcome {
         conditions: 1,
         parks: 0,
     };
-    let timer_at = shape.link_at(2) + 2;
-    for (clock, ticks, stored) in [
-        (65_534, 1, 65_535),
-        (65_535, 1, 1),
-        (65_535, 2, 1),
-        (65_535, 0, 0),
+    let flags_at = shape.link_at(2) + 1;
+    for (clock, ticks, flags, timer) in [
+        (65_534, 1, 6, 65_535),
+        (65_535, 1, 6, 0),
+        (65_535, 2, 6, 1),
+        (65_535, 0, 2, 0),
     ] {
         let mut area = WORDS.to_vec();
         area[3] = clock;
@@ -178,7 +178,7 @@ fn timers(tally: &mut Tally, perform: Perform) -> Outcome {
             &wait,
             Answer::of([0, 1, 0, 1, 0, 0]).pack(),
         )?;
-        tally.same(&area[timer_at], &stored, || {
+        tally.same(&area[flags_at..flags_at + 2], &[flags, timer][..], || {
             format!("clock {clock}, t {ticks}")
         })?;
     }

@@ -4,7 +4,7 @@
 
 use super::{Outcome, Tally};
 use crate::call::{pack_wide, Call};
-use crate::damage::{self, BREAKS};
+use crate::damage;
 use crate::guarded::Guarded;
 use crate::history;
 use crate::library;
@@ -22,7 +22,7 @@ pub fn run(tally: &mut Tally, random: &mut Random) -> Outcome {
     every_count(tally, random, &mut met)?;
     long_slices(tally, random, &mut met)?;
     damaged_areas(tally, random, &mut met)?;
-    waits_of_a_full_round(tally)?;
+    longest_waits(tally)?;
     whole_rounds(tally, random)?;
     sleeps(tally, random)?;
     met.demand()
@@ -34,14 +34,17 @@ struct Met {
     codes: [u64; 6],
     ties: u64,
     full_rounds: u64,
+    at_zero: u64,
     untimed: u64,
 }
 
 impl Met {
-    fn note(&mut self, timed: &[Timed]) {
+    fn note(&mut self, clock: u16, timed: &[Timed]) {
         let tie = timed.windows(2).any(|pair| pair[0].left == pair[1].left);
+        let until_zero = ROUND - u32::from(clock);
         self.ties += u64::from(tie);
         self.full_rounds += u64::from(timed.iter().any(|one| one.left == ROUND));
+        self.at_zero += u64::from(timed.iter().any(|one| one.left == until_zero));
         self.untimed += u64::from(timed.is_empty());
     }
 
@@ -52,7 +55,8 @@ impl Met {
             ("refused by 5", self.codes[5]),
             ("ties", self.ties),
             ("full rounds", self.full_rounds),
-            ("no timer", self.untimed),
+            ("due at clock 0", self.at_zero),
+            ("nobody armed", self.untimed),
         ];
         match counts.iter().find(|(_, count)| *count < 500) {
             None => Ok(()),
@@ -156,7 +160,7 @@ fn every_length(
     let read = Read::new(area);
     read.nearest(tally)?;
     let timed = read.timed.clone().unwrap_or_default();
-    met.note(&timed);
+    met.note(read.words[3], &timed);
     let mut numbers = numbers.to_vec();
     for _ in 0..2 {
         if !timed.is_empty() {
@@ -192,7 +196,7 @@ fn reference_by_search(tally: &mut Tally, random: &mut Random) -> Outcome {
             let time = ((u32::from(state.clock) + left) % ROUND) as u16;
             for process in 1..=shape.processes {
                 let record = state.record(process);
-                if record.waiting && record.timer == time && time != 0 {
+                if record.armed && record.timer == time {
                     found.push(Timed { process, left });
                 }
             }
@@ -218,7 +222,7 @@ fn scattered_states(tally: &mut Tally, random: &mut Random, met: &mut Met) -> Ou
     Ok(())
 }
 
-/// A state in which all wait on one condition but the last, who runs.
+/// A state in which all wait on one condition, unarmed, but the first of ready, who runs.
 fn all_wait(random: &mut Random, processes: u16, clock: u16) -> State {
     let shape = Shape {
         processes,
@@ -238,7 +242,8 @@ fn all_wait(random: &mut Random, processes: u16, clock: u16) -> State {
     state
 }
 
-/// Timers before, at and behind the clock, for clocks at both ends and elsewhere.
+/// Timers before, at and behind the clock, for clocks at both ends and elsewhere; some wait
+/// unarmed.
 fn every_clock(tally: &mut Tally, random: &mut Random, met: &mut Met) -> Outcome {
     let clocks = [0, 1, 2, 3, 32_767, 32_768, 65_533, 65_534, 65_535];
     for round in 0..1_800 {
@@ -247,14 +252,16 @@ fn every_clock(tally: &mut Tally, random: &mut Random, met: &mut Met) -> Outcome
         let mut state = all_wait(random, processes, clock);
         for process in state.conditions[0].queue.clone() {
             let step = random.between(0, 3);
-            state.record_mut(process).timer = match random.below(6) {
+            let timer = match random.below(7) {
                 0 => clock,
                 1 => clock.wrapping_add(step),
                 2 => clock.wrapping_sub(step),
                 3 => clock ^ 0x8000,
                 4 => random.pick(&[0, 1, 2, 65_534, 65_535]),
-                _ => random.word(),
+                5 => random.word(),
+                _ => continue,
             };
+            state.record_mut(process).arm(timer);
         }
         let lent = Guarded::new(&state.words());
         let numbers = [0, 1, 2, 3, 32_767, 32_768, 65_534, 65_535];
@@ -284,10 +291,7 @@ fn every_count(tally: &mut Tally, random: &mut Random, met: &mut Met) -> Outcome
                     3 => random.between(1, 4),
                     _ => 7,
                 };
-                state.record_mut(process).timer = match clock.wrapping_add(left) {
-                    0 => 1,
-                    timer => timer,
-                };
+                state.record_mut(process).arm(clock.wrapping_add(left));
             }
             let lent = Guarded::new(&state.words());
             every_length(tally, random, &lent, &[65_535], met)?;
@@ -317,20 +321,7 @@ fn long_slices(tally: &mut Tally, random: &mut Random, met: &mut Met) -> Outcome
 fn damaged_areas(tally: &mut Tally, random: &mut Random, met: &mut Met) -> Outcome {
     for round in 0..20_000 {
         let shape = sample::small_shape(random);
-        let mut state = sample::state(random, shape);
-        let (_, change) = BREAKS[round % BREAKS.len()];
-        let _ = change(random, &mut state);
-        let mut words = state.words();
-        if random.chance(50) {
-            damage::blind(random, &shape, &mut words);
-        }
-        if random.chance(5) {
-            words.truncate(random.below(words.len()));
-        }
-        if random.chance(2) {
-            words = damage::wrong_count(random);
-        }
-        let lent = Guarded::new(&words);
+        let lent = Guarded::new(&damage::area(random, shape, round, 50));
         let read = Read::new(&lent);
         read.nearest(tally)?;
         let any = random.word();
@@ -345,9 +336,9 @@ fn damaged_areas(tally: &mut Tally, random: &mut Random, met: &mut Met) -> Outco
     Ok(())
 }
 
-/// At clock 1 a wait of 65,535 ticks would fall due at clock 0. It falls due a tick later, a
-/// full round away: due never tells it, nearest does.
-fn waits_of_a_full_round(tally: &mut Tally) -> Outcome {
+/// At clock 1 a wait of 65,535 ticks falls due at clock 0, and both reads tell it. A timer at the
+/// clock, where no Wait sets one, is a full round away: due never tells it, nearest does.
+fn longest_waits(tally: &mut Tally) -> Outcome {
     let start = Call::Start {
         processes: 3,
         locks: 1,
@@ -366,18 +357,22 @@ fn waits_of_a_full_round(tally: &mut Tally) -> Outcome {
         let code = library::perform(&mut area, &call) & 1023;
         tally.same(&code, &0, || format!("{call:?}"))?;
     }
+    let mut early = area.clone();
+    early[3] = 0;
     let full = pack_wide(&[0, 2, ROUND]);
     for ticks in [0, 1, 65_535] {
         let place = || format!("a full round away, {ticks}");
-        tally.same(&library::nearest(&area), &full, place)?;
-        tally.same(&library::due(&area, ticks, &mut buffer), &0, place)?;
+        tally.same(&library::nearest(&early), &full, place)?;
+        tally.same(&library::due(&early, ticks, &mut buffer), &0, place)?;
         tally.same(&buffer, &[7_777; 2], place)?;
     }
-    library::perform(&mut area, &Call::Tick);
-    let place = || "a tick later".to_string();
+    library::perform(&mut early, &Call::Tick);
+    tally.same(&early, &area, || "a tick later".to_string())?;
+    let place = || "65,535 ticks".to_string();
     let nearest = pack_wide(&[0, 2, 65_535]);
     tally.same(&library::nearest(&area), &nearest, place)?;
     tally.same(&library::due(&area, 65_534, &mut buffer), &0, place)?;
+    tally.same(&buffer, &[7_777; 2], place)?;
     let told = pack_wide(&[0, 1]);
     tally.same(&library::due(&area, 65_535, &mut buffer), &told, place)?;
     tally.same(&buffer, &[2, 65_535], place)
@@ -386,7 +381,7 @@ fn waits_of_a_full_round(tally: &mut Tally) -> Outcome {
 // Ticks.
 
 /// The members of a queue of the library's area, in process order.
-fn members(area: &[u16], kind: u16, number: u16) -> Vec<u16> {
+pub fn members(area: &[u16], kind: u16, number: u16) -> Vec<u16> {
     let mut buffer = vec![0; 1_023];
     let count = library::list(area, kind, number, &mut buffer) >> 10;
     buffer.truncate(count as usize);
@@ -455,10 +450,9 @@ fn whole_rounds(tally: &mut Tally, random: &mut Random) -> Outcome {
 fn spread_timers(random: &mut Random, state: &mut State, clock: u16) {
     state.clock = clock;
     for record in &mut state.records {
-        if record.waiting {
+        if record.waiting && random.chance(80) {
             let step = random.between(0, 2);
-            record.timer =
-                random.pick(&[clock, clock.wrapping_add(step), clock.wrapping_sub(step)]);
+            record.arm(random.pick(&[clock, clock.wrapping_add(step), clock.wrapping_sub(step)]));
         }
     }
 }
@@ -496,7 +490,7 @@ fn whole_round(tally: &mut Tally, state: &State) -> Outcome {
 fn a_round_away(state: &State) -> Vec<Timed> {
     let at_clock = |&process: &u16| {
         let record = state.record(process);
-        record.waiting && record.timer != 0 && record.timer == state.clock
+        record.armed && record.timer == state.clock
     };
     let processes = (1..=state.shape.processes).filter(at_clock);
     processes

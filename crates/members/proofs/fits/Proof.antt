@@ -1,58 +1,31 @@
 -- `members::fits` meets its contract: each way out is one way to fail `fitting`, or what is left of it. Assumes nothing.
-use mathlib.Core.Path.{_∙_}
+use mathlib.Core.Path.{sym, _∙_}
 use borrow.Author.Needs.{needs}
-use Rattle.members.proofs.Steps.{fit-odd, fit-rises, fit-waits, fit-timed, fit-blocked, fit-plain}
+use borrow.Author.Tests.{not-true, not-false}
+use Rattle.members.proofs.Steps.{fit-awake, fit-waits, fit-flagged, fit-timed, fit-blocked, fit-plain}
 use Rattle.members.proofs.fits.Statement.{statement}
 use Rattle.members.proofs.fits.Tie as tie
 
-flags-of-requires : tie.Need-flags-of-requires
-flags-of-requires c κs = search needs
+asleep-requires : tie.Need-asleep-requires
+asleep-requires c κs = search needs
 
 returns : tie.Need-returns
-returns c = fit-odd _ _ _ _ _ _ (c .before .flags-of .ensures .0) (c .before .flags-of .ensures .1) (c .if1 .taken)
-
-priority-field-requires : tie.Need-priority-field-requires
-priority-field-requires c κs = search needs
+returns c = fit-awake _ _ _ _ (c .before .before .if1 .taken) (sym (c .before .asleep .ensures) ∙ not-true _ (c .if2 .taken))
 
 returns-2 : tie.Need-returns-2
-returns-2 c = fit-rises _ _ _ _ _ (rw (c .before .priority-field .ensures) at (c .if2 .taken))
+returns-2 c = fit-waits _ _ _ _ (c .before .before .if1 .taken) (sym (c .before .asleep .ensures) ∙ not-false _ (c .if2 .left))
 
 returns-3 : tie.Need-returns-3
-returns-3 c =
-    let p = c .before .before in
-    let i = p .before in
-    fit-waits _ _ _ _ _ (rw (p .priority-field .ensures) at (c .before .if2 .left)) (c .if3 .taken) (i .if1 .left ∙ i .before .flags-of .ensures .0 (c .if3 .taken))
+returns-3 c = fit-flagged _ _ _ _ (c .before .if1 .left) (c .if3 .taken)
 
 returns-4 : tie.Need-returns-4
-returns-4 c =
-    let p = c .before .before .before in
-    let i = p .before in
-    let other = c .before .if3 .left in
-    fit-timed _ _ _ _ _ (rw (p .priority-field .ensures) at (c .before .before .if2 .left)) other (i .if1 .left ∙ i .before .flags-of .ensures .1 other) (c .if4 .taken)
+returns-4 c = fit-timed _ _ _ _ (c .before .before .if1 .left) (c .before .if3 .left) (c .if4 .taken)
 
 returns-5 : tie.Need-returns-5
-returns-5 c =
-    let p = c .before .before .before .before in
-    let i = p .before in
-    let other = c .before .before .if3 .left in
-    fit-blocked _ _ _ _ _ (rw (p .priority-field .ensures) at (c .before .before .before .if2 .left)) other (i .if1 .left ∙ i .before .flags-of .ensures .1 other) (c .before .if4 .left) (c .if5 .taken)
+returns-5 c = fit-blocked _ _ _ _ (c .before .before .before .if1 .left) (c .before .before .if3 .left) (c .before .if4 .left) (c .if5 .taken)
 
 returns-6 : tie.Need-returns-6
-returns-6 c =
-    let p = c .before .before .before .before in
-    let i = p .before in
-    let other = c .before .before .if3 .left in
-    fit-plain _ _ _ _ _ (rw (p .priority-field .ensures) at (c .before .before .before .if2 .left)) other (i .if1 .left ∙ i .before .flags-of .ensures .1 other) (c .before .if4 .left) (c .if5 .left)
+returns-6 c = fit-plain _ _ _ _ (c .before .before .before .if1 .left) (c .before .before .if3 .left) (c .before .if4 .left) (c .if5 .left)
 
 pub fits-spec : {M : Type 1} → statement M
-fits-spec =
-    tie.close
-    (tie.spec
-    flags-of-requires
-    returns
-    priority-field-requires
-    returns-2
-    returns-3
-    returns-4
-    returns-5
-    returns-6)
+fits-spec = tie.close (tie.spec asleep-requires returns returns-2 returns-3 returns-4 returns-5 returns-6)

@@ -12,7 +12,7 @@ use Rattle.heads.specs.First.{Counted}
 use Rattle.members.proofs.Chains.{Words}
 use Rattle.members.proofs.Marks.{clear}
 use Rattle.sound.proofs.Check.{Past, decides-yes, decides-no, uncounted, broken-1, broken-2, uneven, finished, lent-answers, lent-refuses}
-use Rattle.sound.proofs.Queues.{from, lent-small, counted-long, lent-count, lent-led, lent-runs, lent-within, lent-visits}
+use Rattle.sound.proofs.Queues.{from, lent-small, counted-long, lent-count, lent-led, lent-runs, lent-within, lent-visits, from-none}
 use Rattle.sound.proofs.sound.Statement.{statement}
 use Rattle.sound.proofs.sound.Tie as tie
 
@@ -77,23 +77,20 @@ part-records-start c = omega (arith, long c)
 part-records-end : tie.Need-part-records-end
 part-records-end c = search needs
 
-sub-rings : tie.Need-sub-rings
-sub-rings c = omega (arith, long (c .before))
+sub-plain : tie.Need-sub-plain
+sub-plain c = omega (arith, long (c .before))
 
-part-rings-start : tie.Need-part-rings-start
-part-rings-start c = omega (arith, long (c .before))
+part-plain-start : tie.Need-part-plain-start
+part-plain-start c = omega (arith, long (c .before))
 
-part-rings-end : tie.Need-part-rings-end
-part-rings-end c = search needs
+part-plain-end : tie.Need-part-plain-end
+part-plain-end c = search needs
 
-cast-rings : tie.Need-cast-rings
-cast-rings c = search needs
+cast-plain : tie.Need-cast-plain
+cast-plain c = search needs
 
-add-rings : tie.Need-add-rings
-add-rings c = search needs
-
-rings-requires : tie.Need-rings-requires
-rings-requires c κs =
+plain-requires : tie.Need-plain-requires
+plain-requires c κs =
     let r = c .before .before .before .before in
     let e = r .before .before in
     lent-within _ (r .before .shape-of .ensures) (r .records-at .ensures) (counts e) (small e) 0 (omega arith) refl
@@ -104,7 +101,7 @@ returns-2 c =
     let r = c .before .before .before .before .before .before in
     let e = r .before .before in
     let ws = area (e .before .before) in
-    lent-refuses _ (broken-1 ws (small e) (counts e) _ _ (lent-visits ws (r .before .shape-of .ensures) (r .records-at .ensures) 0 (omega arith) refl _ _ _ _ (c .before .rings .ensures)) (c .if2 .taken))
+    lent-refuses _ (broken-1 ws (small e) (counts e) _ _ (lent-visits ws (r .before .shape-of .ensures) (r .records-at .ensures) 0 (omega arith) refl _ _ _ _ (c .before .plain .ensures)) (c .if2 .taken))
 
 conditions-at-requires : tie.Need-conditions-at-requires
 conditions-at-requires c κs = search needs
@@ -112,24 +109,25 @@ conditions-at-requires c κs = search needs
 mul-rings : tie.Need-mul-rings
 mul-rings c = search needs
 
-sub-rings-2 : tie.Need-sub-rings-2
-sub-rings-2 c = omega (arith, long (from-2 (c .before)))
+sub-rings : tie.Need-sub-rings
+sub-rings c = omega (arith, long (from-2 (c .before)))
 
-part-rings-start-2 : tie.Need-part-rings-start-2
-part-rings-start-2 c = omega (arith, long (from-2 (c .before)))
+part-rings-start : tie.Need-part-rings-start
+part-rings-start c = omega (arith, long (from-2 (c .before)))
 
-part-rings-end-2 : tie.Need-part-rings-end-2
-part-rings-end-2 c = search needs
+part-rings-end : tie.Need-part-rings-end
+part-rings-end c = search needs
 
-cast-rings-2 : tie.Need-cast-rings-2
-cast-rings-2 c = search needs
+cast-rings : tie.Need-cast-rings
+cast-rings c = search needs
 
-rings-requires-2 : tie.Need-rings-requires-2
-rings-requires-2 c κs =
+rings-requires : tie.Need-rings-requires
+rings-requires c κs =
     let l = c .before .before .before in
     let r = from-2 (l .before) in
     let e = r .before .before in
-    lent-within _ (r .before .shape-of .ensures) (r .records-at .ensures) (counts e) (small e) 2 (omega arith) (l .conditions-at .ensures)
+    let w = lent-within _ (r .before .shape-of .ensures) (r .records-at .ensures) (counts e) (small e) 2 (omega arith) (l .conditions-at .ensures) in
+    (w .0, w .1, w .2, w .3, omega arith)
 
 returns-3 : tie.Need-returns-3
 unfolding clear
@@ -139,8 +137,8 @@ returns-3 c =
     let r = from-2 i2 in
     let e = r .before .before in
     let ws = area (e .before .before) in
-    lent-refuses _ (broken-2 ws (small e) (counts e) _ _ (lent-visits ws (r .before .shape-of .ensures) (r .records-at .ensures) 0 (omega arith) refl _ _ _ _ (i2 .before .rings .ensures)) (i2 .if2 .left)
-    _ _ (lent-visits ws (r .before .shape-of .ensures) (r .records-at .ensures) 2 (omega arith) (l .conditions-at .ensures) _ _ _ _ (c .before .rings2 .ensures)) (c .if3 .taken))
+    lent-refuses _ (broken-2 ws (small e) (counts e) _ _ (lent-visits ws (r .before .shape-of .ensures) (r .records-at .ensures) 0 (omega arith) refl _ _ _ _ (i2 .before .plain .ensures)) (i2 .if2 .left)
+    _ _ (lent-visits ws (r .before .shape-of .ensures) (r .records-at .ensures) 2 (omega arith) (l .conditions-at .ensures) _ _ _ _ (from-none _ _ _ _ _ _ _ _ _ (c .before .rings .ensures))) (c .if3 .taken))
 
 locks-at-requires : tie.Need-locks-at-requires
 locks-at-requires c κs = search needs
@@ -148,24 +146,25 @@ locks-at-requires c κs = search needs
 mul-rings-2 : tie.Need-mul-rings-2
 mul-rings-2 c = search needs
 
-sub-rings-3 : tie.Need-sub-rings-3
-sub-rings-3 c = omega (arith, long (from-3 (c .before)))
+sub-rings-2 : tie.Need-sub-rings-2
+sub-rings-2 c = omega (arith, long (from-3 (c .before)))
 
-part-rings-start-3 : tie.Need-part-rings-start-3
-part-rings-start-3 c = omega (arith, long (from-3 (c .before)))
+part-rings-start-2 : tie.Need-part-rings-start-2
+part-rings-start-2 c = omega (arith, long (from-3 (c .before)))
 
-part-rings-end-3 : tie.Need-part-rings-end-3
-part-rings-end-3 c = search needs
+part-rings-end-2 : tie.Need-part-rings-end-2
+part-rings-end-2 c = search needs
 
-cast-rings-3 : tie.Need-cast-rings-3
-cast-rings-3 c = search needs
+cast-rings-2 : tie.Need-cast-rings-2
+cast-rings-2 c = search needs
 
-rings-requires-3 : tie.Need-rings-requires-3
-rings-requires-3 c κs =
+rings-requires-2 : tie.Need-rings-requires-2
+rings-requires-2 c κs =
     let k = c .before .before .before in
     let r = from-3 (k .before) in
     let e = r .before .before in
-    lent-within _ (r .before .shape-of .ensures) (r .records-at .ensures) (counts e) (small e) 1 (omega arith) (k .locks-at .ensures)
+    let w = lent-within _ (r .before .shape-of .ensures) (r .records-at .ensures) (counts e) (small e) 1 (omega arith) (k .locks-at .ensures) in
+    (w .0, w .1, w .2, w .3, omega arith)
 
 cast-if4 : tie.Need-cast-if4
 cast-if4 c = search needs
@@ -180,9 +179,9 @@ returns-4 c =
     let r = from-2 i2 in
     let e = r .before .before in
     let ws = area (e .before .before) in
-    lent-refuses _ (uneven ws (small e) (counts e) _ _ (lent-visits ws (r .before .shape-of .ensures) (r .records-at .ensures) 0 (omega arith) refl _ _ _ _ (i2 .before .rings .ensures)) (i2 .if2 .left)
-    _ _ (lent-visits ws (r .before .shape-of .ensures) (r .records-at .ensures) 2 (omega arith) (l .conditions-at .ensures) _ _ _ _ (i3 .before .rings2 .ensures)) (i3 .if3 .left)
-    _ _ (lent-visits ws (r .before .shape-of .ensures) (r .records-at .ensures) 1 (omega arith) (k .locks-at .ensures) _ _ _ _ (c .before .before .rings3 .ensures))
+    lent-refuses _ (uneven ws (small e) (counts e) _ _ (lent-visits ws (r .before .shape-of .ensures) (r .records-at .ensures) 0 (omega arith) refl _ _ _ _ (i2 .before .plain .ensures)) (i2 .if2 .left)
+    _ _ (lent-visits ws (r .before .shape-of .ensures) (r .records-at .ensures) 2 (omega arith) (l .conditions-at .ensures) _ _ _ _ (from-none _ _ _ _ _ _ _ _ _ (i3 .before .rings .ensures))) (i3 .if3 .left)
+    _ _ (lent-visits ws (r .before .shape-of .ensures) (r .records-at .ensures) 1 (omega arith) (k .locks-at .ensures) _ _ _ _ (from-none _ _ _ _ _ _ _ _ _ (c .before .before .rings2 .ensures)))
     (λ f. omega (arith, c .if4 .taken, lent-count ws (r .before .shape-of .ensures) (r .records-at .ensures))))
 
 -- past the last test every process is met once
@@ -196,9 +195,9 @@ past c =
     let r = from-2 i2 in
     let e = r .before .before in
     let ws = area (e .before .before) in
-    finished ws (small e) (counts e) _ _ (lent-visits ws (r .before .shape-of .ensures) (r .records-at .ensures) 0 (omega arith) refl _ _ _ _ (i2 .before .rings .ensures)) (i2 .if2 .left)
-    _ _ (lent-visits ws (r .before .shape-of .ensures) (r .records-at .ensures) 2 (omega arith) (l .conditions-at .ensures) _ _ _ _ (i3 .before .rings2 .ensures)) (i3 .if3 .left)
-    _ _ (lent-visits ws (r .before .shape-of .ensures) (r .records-at .ensures) 1 (omega arith) (k .locks-at .ensures) _ _ _ _ (c .before .before .rings3 .ensures))
+    finished ws (small e) (counts e) _ _ (lent-visits ws (r .before .shape-of .ensures) (r .records-at .ensures) 0 (omega arith) refl _ _ _ _ (i2 .before .plain .ensures)) (i2 .if2 .left)
+    _ _ (lent-visits ws (r .before .shape-of .ensures) (r .records-at .ensures) 2 (omega arith) (l .conditions-at .ensures) _ _ _ _ (from-none _ _ _ _ _ _ _ _ _ (i3 .before .rings .ensures))) (i3 .if3 .left)
+    _ _ (lent-visits ws (r .before .shape-of .ensures) (r .records-at .ensures) 1 (omega arith) (k .locks-at .ensures) _ _ _ _ (from-none _ _ _ _ _ _ _ _ _ (c .before .before .rings2 .ensures)))
     (omega (arith, c .if4 .left, lent-count ws (r .before .shape-of .ensures) (r .records-at .ensures)))
 
 runs-requires : tie.Need-runs-requires
@@ -226,28 +225,27 @@ sound-spec =
     sub-records
     part-records-start
     part-records-end
+    sub-plain
+    part-plain-start
+    part-plain-end
+    cast-plain
+    plain-requires
+    returns-2
+    conditions-at-requires
+    mul-rings
     sub-rings
     part-rings-start
     part-rings-end
     cast-rings
-    add-rings
     rings-requires
-    returns-2
-    conditions-at-requires
-    mul-rings
+    returns-3
+    locks-at-requires
+    mul-rings-2
     sub-rings-2
     part-rings-start-2
     part-rings-end-2
     cast-rings-2
     rings-requires-2
-    returns-3
-    locks-at-requires
-    mul-rings-2
-    sub-rings-3
-    part-rings-start-3
-    part-rings-end-3
-    cast-rings-3
-    rings-requires-3
     cast-if4
     returns-4
     runs-requires

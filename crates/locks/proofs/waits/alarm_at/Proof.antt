@@ -1,5 +1,5 @@
--- `locks::waits::alarm_at` meets its contract: the clock plus the ticks, going round, with 0 for none and 1 in the place of 0. Assumes nothing.
-use Rattle.locks.proofs.Waiting.{alarm-none, alarm-one, alarm-due}
+-- `locks::waits::alarm_at` meets its contract: the clock plus the ticks, going round, with 0 for none. Assumes nothing.
+use Rattle.locks.proofs.Waiting.{alarm-none, alarm-due}
 use borrow.Author.Needs.{needs}
 use Rattle.locks.proofs.waits.alarm_at.Statement.{statement}
 use Rattle.locks.proofs.waits.alarm_at.Tie as tie
@@ -11,10 +11,7 @@ wrapping-add-u16-requires : tie.Need-wrapping-add-u16-requires
 wrapping-add-u16-requires c κs = search needs
 
 returns-2 : tie.Need-returns-2
-returns-2 c = alarm-one (c .before .before .before .args .now) (c .before .before .if1 .left) (c .before .wrapping-add-u16 .ensures) (c .if2 .taken)
-
-returns-3 : tie.Need-returns-3
-returns-3 c = alarm-due (c .before .before .before .args .now) (c .before .before .if1 .left) (c .before .wrapping-add-u16 .ensures) (c .if2 .left)
+returns-2 c = alarm-due (c .before .before .args .now) (c .before .if1 .left) (c .wrapping-add-u16 .ensures)
 
 pub alarm-at-spec : {M : Type 1} → statement M
-alarm-at-spec = tie.close (tie.spec returns wrapping-add-u16-requires returns-2 returns-3)
+alarm-at-spec = tie.close (tie.spec returns wrapping-add-u16-requires returns-2)

@@ -1,20 +1,17 @@
--- `wakes::clock::nobody_due` meets its contract. The loop's invariant: of the processes passed nobody's timer is at this time, which is read in the records as they are lent. The measure is the processes ahead. Assumes nothing.
+-- `wakes::clock::nobody_due` meets its contract. The loop's invariant: of the processes passed nobody's timer rings at this time, which is read in the records as they are lent. The measure is the processes ahead. Assumes nothing.
 use Prim.Native.Nat.{ℕ, _+_, _-_, _≤_}
 use native.Mathlib.Omega.{arith}
-use mathlib.Core.Path.{_≡_, refl, subst}
+use mathlib.Core.Path.{_≡_, refl, sym, _∙_, subst}
 use mathlib.Core.Bool.{false≢true}
 use mathlib.Core.List.{[]}
-use lib.ListN.{take}
 use Rattle.model.specs.declared.Shape.{Shape}
 use Rattle.model.specs.Machine.{State, model}
 use Rattle.model.proofs.Tests.{bounds-inside}
 use Rattle.area.specs.Layout.{recordsAt}
-use Rattle.area.specs.State.{laid}
 use Rattle.area.specs.Holds.{Holds}
 use Rattle.crowds.specs.Crowds.{ringing}
 use Rattle.area.proofs.Whole.{counts-in}
-use Rattle.moves.proofs.Relinks.{lent-front, lent-image}
-use Rattle.wakes.proofs.Ticking.{none-next}
+use Rattle.wakes.proofs.Ticking.{held-stands, held-rings, none-next}
 use borrow.Author.Needs.{needs}
 use Rattle.wakes.proofs.clock.nobody_due.Statement.{statement}
 use Rattle.wakes.proofs.clock.nobody_due.Tie as tie
@@ -31,25 +28,23 @@ records-at-requires c κs = search needs
 loop-holds : tie.Need-loop-holds Inv-loop μ-loop
 loop-holds c = (omega arith, omega arith, λ n s a k H. refl)
 
-mul-timer-in : tie.Need-mul-timer-in Inv-loop μ-loop
-mul-timer-in c = search needs
+mul-rings : tie.Need-mul-rings Inv-loop μ-loop
+mul-rings c = search needs
 
-sub-timer-in : tie.Need-sub-timer-in Inv-loop μ-loop
-sub-timer-in c = search needs
+sub-rings : tie.Need-sub-rings Inv-loop μ-loop
+sub-rings c = search needs
 
-part-timer-in-start : tie.Need-part-timer-in-start Inv-loop μ-loop
-part-timer-in-start c = search needs
+part-rings-start : tie.Need-part-rings-start Inv-loop μ-loop
+part-rings-start c = search needs
 
-part-timer-in-end : tie.Need-part-timer-in-end Inv-loop μ-loop
-part-timer-in-end c = search needs
+part-rings-end : tie.Need-part-rings-end Inv-loop μ-loop
+part-rings-end c = search needs
 
-timer-in-requires : tie.Need-timer-in-requires Inv-loop μ-loop
-timer-in-requires c κs =
+rings-requires : tie.Need-rings-requires Inv-loop μ-loop
+rings-requires c κs =
     let s = c .before .before .before .before .before in
-    let n = s .args .shape in
-    let im = s .pre .1 .image in
-    let at-records = c .before .before .before .records-at .ensures in
-    (n, take (recordsAt n) (s .args .area .now), laid n (s .pre .0), lent-front at-records im, lent-image at-records im, bounds-inside (n .processes) (c .before .before .loop .p) (c .before .before .loop .inv .0) (c .before .loop-test .taken))
+    let l = c .before .before .loop in
+    held-stands (s .pre .1) (l .p) (c .before .before .before .records-at .ensures) (bounds-inside (s .args .shape .processes) (l .p) (l .inv .0) (c .before .loop-test .taken))
 
 returns : tie.Need-returns Inv-loop μ-loop
 returns c = λ s H e. absurd (false≢true e)
@@ -65,7 +60,9 @@ loop-again c =
     let l = c .before .before .before .before .loop in (
       omega arith,
       omega (arith, c .before .before .before .loop-test .taken),
-      λ n s a k H. none-next (s .fields) _ (l .p) (c .before .timer-in .result) (l .inv .0) (c .before .timer-in .ensures n (take (recordsAt n) _) (laid n s) (lent-front a (H .image)) (lent-image a (H .image)) (bounds-inside (n .processes) (l .p) (l .inv .0) (omega (arith, k, c .before .before .before .loop-test .taken)))) (c .if1 .left) (l .inv .2 n s a k H),
+      λ n s a k H.
+          let i = bounds-inside (n .processes) (l .p) (l .inv .0) (omega (arith, k, c .before .before .before .loop-test .taken)) in
+          none-next (s .fields) _ (l .p) (l .inv .0) (sym (held-rings H (l .p) a i _) ∙ sym (c .before .rings .ensures) ∙ c .if1 .left) (l .inv .2 n s a k H),
     )
 
 returns-2 : tie.Need-returns-2 Inv-loop μ-loop
@@ -83,11 +80,11 @@ nobody-due-spec =
     μ-loop
     records-at-requires
     loop-holds
-    mul-timer-in
-    sub-timer-in
-    part-timer-in-start
-    part-timer-in-end
-    timer-in-requires
+    mul-rings
+    sub-rings
+    part-rings-start
+    part-rings-end
+    rings-requires
     returns
     add-p
     loop-less

@@ -4,7 +4,8 @@ use mathlib.Core.Path.{refl}
 use Rattle.model.specs.Field.Field.{clock}
 use Rattle.area.proofs.Puts.{becomes-then}
 use Rattle.moves.proofs.Shared.{taking}
-use Rattle.wakes.proofs.Ticking.{valid-clock, ticks}
+use Rattle.model.proofs.Kept.{valid-clock}
+use Rattle.wakes.proofs.Ticking.{ticks}
 use borrow.Author.Needs.{needs}
 use Rattle.wakes.proofs.clock.tick.Statement.{statement}
 use Rattle.wakes.proofs.clock.tick.Tie as tie

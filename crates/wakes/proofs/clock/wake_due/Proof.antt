@@ -1,49 +1,44 @@
 -- `wakes::clock::wake_due` meets its contract: nobody rings, or those who ring leave their conditions and then wake. Assumes nothing.
-use mathlib.Core.Path.{refl, _∙_}
-use Rattle.wakes.proofs.Ticking.{due-ringing, none-ring, none-at-zero, ringers-wake, ringers-woken}
+use mathlib.Core.Path.{refl}
+use Rattle.wakes.proofs.Ticking.{none-ring, ringers-wake, ringers-woken}
 use borrow.Author.Needs.{needs}
 use Rattle.wakes.proofs.clock.wake_due.Statement.{statement}
 use Rattle.wakes.proofs.clock.wake_due.Tie as tie
 
-returns : tie.Need-returns
-returns c = λ s H v. none-ring (c .before .before .args .time) H (none-at-zero (c .before .before .args .shape) (s .fields) (c .if1 .taken))
-
 nobody-due-requires : tie.Need-nobody-due-requires
-nobody-due-requires c κs = (c .before .before .before .pre .state, c .before .before .before .pre .holds)
+nobody-due-requires c κs = (c .before .before .pre .state, c .before .before .pre .holds)
 
 same-length : tie.Need-same-length
 same-length c = search needs
 
-returns-2 : tie.Need-returns-2
-returns-2 c = λ s H v. none-ring (c .before .before .before .before .before .args .time) H (due-ringing (c .before .before .before .before .before .args .shape) (s .fields) (c .before .before .before .if1 .left) ∙ c .before .nobody-due .ensures s H (c .if2 .taken))
+returns : tie.Need-returns
+returns c = λ s H v. none-ring (c .before .before .before .before .args .time) H (c .before .nobody-due .ensures s H (c .if1 .taken))
 
 sweep-all-requires : tie.Need-sweep-all-requires
-sweep-all-requires c κs = (c .before .before .before .before .before .before .pre .state, c .before .before .before .before .before .before .pre .holds)
+sweep-all-requires c κs = (c .before .before .before .before .before .pre .state, c .before .before .before .before .before .pre .holds)
 
 wake-due-requires : tie.Need-wake-due-requires
 wake-due-requires c κs =
-    let s = c .before .before .before .before .before .before .before .before .before .before .pre in
-    (s .state .fields, ringers-wake (s .holds) (s .valid) (c .before .before .before .before .before .before .before .before .if1 .left) (c .before .before .before .sweep-all .ensures (s .state) (s .holds)), refl)
+    let s = c .before .before .before .before .before .before .before .before .before .pre in
+    (s .state .fields, ringers-wake (s .holds) (s .valid) _ (c .before .before .before .sweep-all .ensures (s .state) (s .holds)), refl)
 
 same-length-2 : tie.Need-same-length-2
 same-length-2 c = search needs
 
-returns-3 : tie.Need-returns-3
-returns-3 c = λ s H v.
-    let some-time = c .before .before .before .before .before .before .before .before .before .before .before .if1 .left in
+returns-2 : tie.Need-returns-2
+returns-2 c = λ s H v.
     let L = c .before .before .before .before .before .before .sweep-all .ensures s H in
-    let W = c .before .before .wake-due .ensures (s .fields) (ringers-wake H v some-time L) refl in
-    rw (due-ringing (c .before .before .before .before .before .before .before .before .before .before .before .before .before .args .shape) (s .fields) some-time) (W .0, ringers-woken H v some-time L (W .1))
+    let W = c .before .before .wake-due .ensures (s .fields) (ringers-wake H v _ L) refl in
+    (W .0, ringers-woken H v _ L (W .1))
 
 pub wake-due-spec : {M : Type 1} → statement M
 wake-due-spec =
     tie.close
     (tie.spec
-    returns
     nobody-due-requires
     same-length
-    returns-2
+    returns
     sweep-all-requires
     wake-due-requires
     same-length-2
-    returns-3)
+    returns-2)
