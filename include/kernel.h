@@ -23,7 +23,7 @@
  * P words. nearest takes one pass over the timers; due takes one where nobody is due, else two, and about n log n steps to sort the n that
  * it tells. sheet walks every queue once, which is P steps in all, and writes 29 bytes a queue. README.md has measured times.
  *
- * A call takes less than 416 bytes of stack (336 measured at most, on x86-64). */
+ * A call takes less than 416 bytes of stack (320 measured at most, on x86-64). */
 #ifndef KERNEL_H
 #define KERNEL_H
 
