@@ -18,9 +18,15 @@ pub const BREAKS: [(&str, Break); 22] = [
     ("waiting outside conditions", waiting_outside),
     ("not waiting in a condition", not_waiting_inside),
     ("timer set outside", timer_outside),
-    ("armed in ready", armed_in_ready),
-    ("armed in a park", armed_in_a_park),
-    ("armed in a lock", armed_in_a_lock),
+    ("armed in ready", |random, state| {
+        armed_in(random, state, is_ready)
+    }),
+    ("armed in a park", |random, state| {
+        armed_in(random, state, is_park)
+    }),
+    ("armed in a lock", |random, state| {
+        armed_in(random, state, is_lock)
+    }),
     ("armed with a timer outside", armed_with_a_timer_outside),
     ("armed without waiting inside", armed_without_waiting_inside),
     ("armed cleared before a timer", armed_cleared_before_a_timer),
@@ -152,20 +158,8 @@ fn timer_outside(random: &mut Random, state: &mut State) -> Option<()> {
     Some(())
 }
 
-fn armed_in_ready(random: &mut Random, state: &mut State) -> Option<()> {
-    let process = member(random, state, is_ready)?;
-    state.record_mut(process).armed = true;
-    Some(())
-}
-
-fn armed_in_a_park(random: &mut Random, state: &mut State) -> Option<()> {
-    let process = member(random, state, is_park)?;
-    state.record_mut(process).armed = true;
-    Some(())
-}
-
-fn armed_in_a_lock(random: &mut Random, state: &mut State) -> Option<()> {
-    let process = member(random, state, is_lock)?;
+fn armed_in(random: &mut Random, state: &mut State, wanted: fn(Queue) -> bool) -> Option<()> {
+    let process = member(random, state, wanted)?;
     state.record_mut(process).armed = true;
     Some(())
 }

@@ -1,4 +1,5 @@
--- 01's table, as 02 changes it: what a kernel is asked, row by row, and what must come; and that it comes from the model and the ledger, by computation.
+-- 01's table, as 02 changes it: what a kernel is asked, row by row, and what must come; and that it comes from the model and the ledger, by
+-- computation.
 -- The rows that speak of words and of lines stand in `crates/table/specs/Table.antt`. Assumes nothing.
 use Prim.Native.Nat.{ℕ, _%_}
 use native.Mathlib.Decide.{ℕ-discrete}

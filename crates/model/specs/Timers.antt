@@ -1,5 +1,5 @@
--- Timers: how many ticks each process has left, who is due within so many, and who is the nearest. Items 1
--- and 5 of document 02. Assumes nothing.
+-- Timers: how many ticks each process has left, who is due within so many, and who is the nearest. Items 1 and 5 of document 02.
+-- Assumes nothing.
 use Prim.Native.Nat.{ℕ, zero, suc, _+_, _-_, _%_}
 use mathlib.Core.Bool.{Bool, true, false, _&&_, cond}
 use mathlib.Core.List.{List, [], _∷_, _++_, map}
@@ -17,6 +17,7 @@ abbrev pub ticks : ℕ → List Call
 ticks zero = []
 ticks (suc k) = Tick ∷ ticks k
 
+-- whether a call is Tick
 abbrev pub isTick : Call → Bool
 isTick (Enter l) = false
 isTick (Exit l) = false
