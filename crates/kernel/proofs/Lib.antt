@@ -1,3 +1,1 @@
 pub mod Packing
-pub mod Demands
-pub mod OnTime

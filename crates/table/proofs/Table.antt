@@ -40,7 +40,7 @@ use Rattle.monitor.proofs.History.{Keeps, keeps-sound, keeps-state, step-keeps,
 use Rattle.monitor.proofs.Promises.{long-code}
 use Rattle.kernel.specs.Exports.{Begins, Crosses}
 use Rattle.kernel.proofs.Packing.{crosses, begins as conveys}
-use Rattle.kernel.proofs.Demands.{demand2, run-crossed}
+use Rattle.demands.proofs.Demands.{demand2, run-crossed}
 use Rattle.script.specs.Line.{Meaning, meaning}
 use Rattle.script.specs.Line.Meaning.{call, start as begins}
 use Rattle.print.specs.Print.{printed}

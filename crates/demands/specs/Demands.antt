@@ -1,6 +1,6 @@
 -- The three demands, that whoever waits wakes on time, and that the words beyond an area's size are neither read nor changed: each a
 -- statement about what the exports promise, over every area, of any length and content, and every number. They hold by
--- `crates/kernel/proofs/Demands.antt`, and `OnTime` by `OnTime.antt` beside it. Assumes nothing.
+-- `crates/demands/proofs/Demands.antt`, and `OnTime` by `OnTime.antt` beside it. Assumes nothing.
 use Prim.Native.Nat.{ℕ, _+_, _*_, _≤_, _<_}
 use mathlib.Core.Path.{_≡_}
 use mathlib.Core.Logic.{_≢_, _↔_}

@@ -20,8 +20,8 @@ use Rattle.monitor.proofs.History.{run-ends}
 use Rattle.wire.proofs.Wire.{read-answer, read-report, read-nearest}
 use Rattle.monitor.proofs.Promises.{performs-spares, starts-spares, performs-keeps, starts-keeps, performs-alike, starts-alike}
 use Rattle.monitor.proofs.Readings.{reads-spares, reads-alike, lists-determined, tells-determined, sheets-determined, nearest-spares, nearest-alike}
 use Rattle.kernel.specs.Exports.{Conveys, Crosses, Begins, Writes, Dues, Pages, Nears, Judges}
-use Rattle.kernel.specs.Demands.{Demand1, Demand2, Demand3, Beyond}
+use Rattle.demands.specs.Demands.{Demand1, Demand2, Demand3, Beyond}
 
 -- ---- what is read back keeps the promise
 

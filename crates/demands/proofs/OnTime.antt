@@ -9,9 +9,9 @@ use Rattle.monitor.specs.History.{Run}
 use Rattle.monitor.specs.History.Run.{none, then}
 use Rattle.monitor.specs.Ticks.{WakesIn, Still, Undisturbed, SleepsFor}
 use Rattle.monitor.proofs.Ticks.{told-wakes, nearest-wakes, still-before, still-ever, wait-lasts}
 use Rattle.kernel.specs.Exports.{Crosses}
-use Rattle.kernel.specs.Demands.{OnTime}
-use Rattle.kernel.proofs.Demands.{demand2, run-crossed}
+use Rattle.demands.specs.Demands.{OnTime}
+use Rattle.demands.proofs.Demands.{demand2, run-crossed}
 
 -- what Ticks bring about as they are promised, they bring about when made from C
 wakes-crossed : {ws : List ℕ} {p d : ℕ} → WakesIn Performs ws p d → WakesIn Crosses ws p d
