@@ -36,7 +36,7 @@ target/%: examples/%.c lib include/kernel.h
 run: rehearse
 	target/bin/rehearse < $(SCRIPT) | paste $(SCRIPT) -
 
-# rehearse first: it takes every crate but kernel, replay, demands and table, and both cores
+# rehearse first: it takes every crate but runs, kernel, replay, demands and table, and both cores
 test: rehearse
 	$(MAKE) target/nine target/probe target/sheet
 	target/nine | diff examples/nine.txt -

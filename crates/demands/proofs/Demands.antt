@@ -14,12 +14,12 @@ use Rattle.area.proofs.Agreeing.{agree-back, sound-same}
 use Rattle.start.specs.Start.{Starts}
 use Rattle.monitor.specs.Calls.{Performs, ListsOn, TellsOn, SheetsOn, NearestOn}
 use Rattle.wire.specs.Wire.{packed, answerOf, reportOf, nearestOf}
-use Rattle.monitor.specs.History.{Run}
-use Rattle.monitor.specs.History.Run.{none, then}
-use Rattle.monitor.proofs.History.{run-ends}
+use Rattle.runs.specs.History.{Run}
+use Rattle.runs.specs.History.Run.{none, then}
+use Rattle.runs.proofs.History.{run-ends}
 use Rattle.wire.proofs.Wire.{read-answer, read-report, read-nearest}
-use Rattle.monitor.proofs.Promises.{performs-spares, starts-spares, performs-keeps, starts-keeps, performs-alike, starts-alike}
-use Rattle.monitor.proofs.Readings.{reads-spares, reads-alike, lists-determined, tells-determined, sheets-determined, nearest-spares, nearest-alike}
+use Rattle.runs.proofs.Promises.{performs-spares, starts-spares, performs-keeps, starts-keeps, performs-alike, starts-alike}
+use Rattle.runs.proofs.Readings.{reads-spares, reads-alike, lists-determined, tells-determined, sheets-determined, nearest-spares, nearest-alike}
 use Rattle.kernel.specs.Exports.{Conveys, Crosses, Begins, Writes, Dues, Pages, Nears, Judges}
 use Rattle.demands.specs.Demands.{Demand1, Demand2, Demand3, Beyond}
 

@@ -5,10 +5,10 @@ use mathlib.Core.List.{List, map}
 use Rattle.model.specs.declared.Call.{Call}
 use Rattle.monitor.specs.Calls.{Performs}
 use Rattle.wire.specs.Wire.{answerOf}
-use Rattle.monitor.specs.History.{Run}
-use Rattle.monitor.specs.History.Run.{none, then}
-use Rattle.monitor.specs.Ticks.{WakesIn, Still, Undisturbed, SleepsFor}
-use Rattle.monitor.proofs.Ticks.{told-wakes, nearest-wakes, still-before, still-ever, wait-lasts}
+use Rattle.runs.specs.History.{Run}
+use Rattle.runs.specs.History.Run.{none, then}
+use Rattle.runs.specs.Ticks.{WakesIn, Still, Undisturbed, SleepsFor}
+use Rattle.runs.proofs.Ticks.{told-wakes, nearest-wakes, still-before, still-ever, wait-lasts}
 use Rattle.kernel.specs.Exports.{Crosses}
 use Rattle.demands.specs.Demands.{OnTime}
 use Rattle.demands.proofs.Demands.{demand2, run-crossed}

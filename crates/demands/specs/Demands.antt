@@ -19,8 +19,8 @@ use Rattle.area.specs.Sound.{Sound}
 use Rattle.start.specs.Start.{Starts}
 use Rattle.monitor.specs.Calls.{Performs, ListsOn, TellsOn, SheetsOn, NearestOn, Spares}
 use Rattle.wire.specs.Wire.{answerOf, reportOf, nearestOf}
-use Rattle.monitor.specs.History as history
-use Rattle.monitor.specs.Ticks.{WakesIn, Still, SleepsFor}
+use Rattle.runs.specs.History as history
+use Rattle.runs.specs.Ticks.{WakesIn, Still, SleepsFor}
 use Rattle.kernel.specs.Exports.{Crosses, Begins, Writes, Dues, Pages, Nears, Judges}
 
 -- 1. Every area and every number is answered, since no export requires anything; and a wrong number gets the refusal that the rules of demand 2

@@ -15,8 +15,8 @@ use Rattle.timers.specs.declared.Earliest.{Earliest}
 use Rattle.monitor.specs.Calls.{Performs, ListsOn, TellsOn, SheetsOn, NearestOn}
 use Rattle.wire.specs.Wire.{packed, Carries, reportFields, nearestFields, numberOf}
 use Rattle.wire.proofs.Wire.{Fit, carries}
-use Rattle.monitor.proofs.Promises.{performs-fits, starts-fits}
-use Rattle.monitor.proofs.Readings.{lists-fits, tells-fits, sheets-fits, nearest-fits}
+use Rattle.runs.proofs.Promises.{performs-fits, starts-fits}
+use Rattle.runs.proofs.Readings.{lists-fits, tells-fits, sheets-fits, nearest-fits}
 use Rattle.kernel.specs.Exports.{Conveys, Crosses, Begins, Writes, Dues, Pages, Nears, Judges}
 
 -- an export's contract, whatever the call: from what is promised of the answer, and the answer's number

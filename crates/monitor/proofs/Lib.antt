@@ -1,5 +1,1 @@
 pub mod Performs
-pub mod History
-pub mod Promises
-pub mod Readings
-pub mod Ticks

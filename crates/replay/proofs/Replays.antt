@@ -14,12 +14,12 @@ use Rattle.model.specs.declared.Call.the-variants.{Enter, Exit, Wait, Notify, B
 use Rattle.model.specs.declared.Answer.{Answer}
 use Rattle.model.specs.Machine.{fieldsOf}
 use Rattle.monitor.specs.Calls.{Performs}
-use Rattle.monitor.specs.History.{Run, Ends}
-use Rattle.monitor.specs.History.Run.{none, then}
+use Rattle.runs.specs.History.{Run, Ends}
+use Rattle.runs.specs.History.Run.{none, then}
 use Rattle.wire.specs.Wire.{numberOf, answerOf}
 use Rattle.wire.proofs.Wire.{carries, read-answer}
-use Rattle.monitor.proofs.History.{run-ends}
-use Rattle.monitor.proofs.Promises.{performs-fits}
+use Rattle.runs.proofs.History.{run-ends}
+use Rattle.runs.proofs.Promises.{performs-fits}
 use Rattle.replay.specs.declared.Record.{Record}
 use Rattle.replay.specs.declared.Record.the-variants.{Made, Malformed}
 use Rattle.replay.specs.Replay.{none2, none3, pick, made, operation, recorded, firstOf, follow, logged, Served, Replayed, LogDemand3}

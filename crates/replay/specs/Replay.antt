@@ -11,7 +11,7 @@ use Rattle.model.specs.declared.Call.the-variants.{Enter, Exit, Wait, Notify, B
 use Rattle.model.specs.declared.Answer.{Answer}
 use Rattle.start.specs.Start.{Starts}
 use Rattle.monitor.specs.Calls.{Performs}
-use Rattle.monitor.specs.History.{Run, Ends}
+use Rattle.runs.specs.History.{Run, Ends}
 use Rattle.wire.specs.Wire.{numberOf, answerOf}
 use Rattle.replay.specs.declared.Record.{Record}
 use Rattle.replay.specs.declared.Record.the-variants.{Made, Malformed}

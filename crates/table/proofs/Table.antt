@@ -33,11 +33,11 @@ use Rattle.area.proofs.Stores.{store}
 use Rattle.area.proofs.Puts.{placed-with, becomes-with}
 use Rattle.start.specs.Start.{startOn}
 use Rattle.monitor.specs.Calls.{Performs}
-use Rattle.monitor.specs.History.{Run}
-use Rattle.monitor.specs.History.Run.{none, then}
+use Rattle.runs.specs.History.{Run}
+use Rattle.runs.specs.History.Run.{none, then}
 use Rattle.wire.specs.Wire.{numberOf, answerOf}
-use Rattle.monitor.proofs.History.{Keeps, keeps-sound, keeps-state, step-keeps, run-answers, run-keeps, starts-code, start-keeps}
-use Rattle.monitor.proofs.Promises.{long-code}
+use Rattle.runs.proofs.History.{Keeps, keeps-sound, keeps-state, step-keeps, run-answers, run-keeps, starts-code, start-keeps}
+use Rattle.runs.proofs.Promises.{long-code}
 use Rattle.kernel.specs.Exports.{Begins, Crosses}
 use Rattle.kernel.proofs.Packing.{crosses, begins as conveys}
 use Rattle.demands.proofs.Demands.{demand2, run-crossed}

@@ -18,7 +18,7 @@ use Rattle.model.specs.Table.Question.{code, lines, stores}
 use Rattle.area.specs.Layout.{size}
 use Rattle.area.specs.Reading.{stateOf}
 use Rattle.area.specs.Sound.{Sound}
-use Rattle.monitor.specs.History.{Run}
+use Rattle.runs.specs.History.{Run}
 use Rattle.wire.specs.Wire.{answerOf}
 use Rattle.kernel.specs.Exports.{Begins, Crosses}
 use Rattle.script.specs.Line.{meaning}

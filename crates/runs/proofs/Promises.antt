@@ -26,9 +26,9 @@ use Rattle.area.proofs.Whole.{counts-in, write-below, write-beyond}
 use Rattle.area.proofs.States.{sound-write}
 use Rattle.area.proofs.Agreeing.{shape-same, state-same, agree-back, sound-same}
 use Rattle.start.specs.Start.{startOn, Starts}
 use Rattle.monitor.specs.Calls.{Performs, Spares}
 use Rattle.wire.proofs.Wire.{Fit, answerFrom}
-use Rattle.monitor.proofs.History.{start-accepted}
+use Rattle.runs.proofs.History.{start-accepted}
 
 -- ---- by cases on soundness, where what is to be shown can be decided
 

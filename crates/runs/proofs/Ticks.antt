@@ -27,12 +27,12 @@ use Rattle.area.specs.Sound.{Sound}
 use Rattle.area.proofs.States.{sound-image}
 use Rattle.timers.specs.declared.Earliest.{Earliest}
 use Rattle.timers.specs.Telling.{inWords}
 use Rattle.monitor.specs.Calls.{Performs, TellsOn, NearestOn}
-use Rattle.monitor.specs.History.{Run}
-use Rattle.monitor.specs.History.Run.{none, then}
-use Rattle.monitor.specs.Ticks.{WakesIn, Still, Undisturbed, SleepsFor}
-use Rattle.monitor.proofs.History.{Keeps, keeps-shape, keeps-state, step-answer, step-keeps, run-keeps}
-use Rattle.monitor.proofs.Promises.{settle, lists?}
+use Rattle.runs.specs.History.{Run}
+use Rattle.runs.specs.History.Run.{none, then}
+use Rattle.runs.specs.Ticks.{WakesIn, Still, Undisturbed, SleepsFor}
+use Rattle.runs.proofs.History.{Keeps, keeps-shape, keeps-state, step-answer, step-keeps, run-keeps}
+use Rattle.runs.proofs.Promises.{settle, lists?}
 
 -- ---- from a sound area
 

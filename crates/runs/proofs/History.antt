@@ -32,9 +32,9 @@ use Rattle.area.specs.Sound.{Says, Sound}
 use Rattle.area.proofs.Whole.{write-image, image-shape}
 use Rattle.area.proofs.States.{laid-spans, state-read, state-says, image-sound}
 use Rattle.start.specs.Start.{startOn, Starts}
 use Rattle.monitor.specs.Calls.{Performs}
-use Rattle.monitor.specs.History.{Run, Ends, Demand3}
-use Rattle.monitor.specs.History.Run.{none, then}
+use Rattle.runs.specs.History.{Run, Ends, Demand3}
+use Rattle.runs.specs.History.Run.{none, then}
 
 -- ws are the words of the valid state s
 pub record Keeps (n : Shape) (ws : List ℕ) (s : State model) : Type 0 where
