@@ -28,6 +28,9 @@ struct calls {
     uint64_t (*notify)(uint16_t *, size_t, uint16_t);
     uint64_t (*broadcast)(uint16_t *, size_t, uint16_t);
     uint64_t (*naked)(uint16_t *, size_t, uint16_t);
+    uint64_t (*abort)(uint16_t *, size_t, uint16_t);
+    uint64_t (*set_abortable)(uint16_t *, size_t, uint16_t, uint16_t);
+    uint64_t (*reenter)(uint16_t *, size_t, uint16_t, uint16_t);
     uint64_t (*set_priority)(uint16_t *, size_t, uint16_t);
     uint64_t (*wait)(uint16_t *, size_t, uint16_t, uint16_t, uint16_t);
     uint64_t (*requeue)(uint16_t *, size_t, uint16_t, uint16_t, uint16_t);
@@ -40,7 +43,8 @@ struct calls {
 #define CALLS_OF(kernel) \
     {.start = kernel##_start, .sound = kernel##_sound, .tick = kernel##_tick, .enter = kernel##_enter, \
      .exit = kernel##_exit, .notify = kernel##_notify, .broadcast = kernel##_broadcast, \
-     .naked = kernel##_naked, .set_priority = kernel##_set_priority, .wait = kernel##_wait, \
+     .naked = kernel##_naked, .abort = kernel##_abort, .set_abortable = kernel##_set_abortable, \
+     .reenter = kernel##_reenter, .set_priority = kernel##_set_priority, .wait = kernel##_wait, \
      .requeue = kernel##_requeue, .list = kernel##_list, .due = kernel##_due, .nearest = kernel##_nearest, \
      .sheet = kernel##_sheet}
 
@@ -177,6 +181,7 @@ static const struct counts FEW = {2, 4, 2}, MANY_CONDITIONS = {2, MAX_CONDITIONS
 
 enum place { FIRST_CONDITION, LAST_CONDITION, EACH_CONDITION, FIRST_LOCK, HOLDERS_CONDITION, EACH_QUEUE };
 enum order { FORWARDS, BACKWARDS };
+enum alarm { CALM, ABORTABLE, ABORTED }; /* all conditions are abortable; who runs is aborted too */
 
 struct scene {
     const char *name;
@@ -186,40 +191,47 @@ struct scene {
     enum order order;       /* in which they came there, by process number */
     ticks *ticks;
     const struct counts *counts;
+    enum alarm alarm;
 };
 
 static const struct scene
-    READY = {"ready", equal, nobody, FIRST_CONDITION, FORWARDS, never, &FEW},
-    READY_ANY = {"ready, random", any, nobody, FIRST_CONDITION, FORWARDS, never, &FEW},
-    WAITING = {"waiting", equal, everybody, FIRST_CONDITION, FORWARDS, never, &FEW},
-    WAITING_ANY = {"waiting, random", any, everybody, FIRST_CONDITION, FORWARDS, never, &FEW},
-    WAITING_SPREAD = {"waiting on 255", any, everybody, EACH_CONDITION, FORWARDS, never, &MANY_CONDITIONS},
+    READY = {"ready", equal, nobody, FIRST_CONDITION, FORWARDS, never, &FEW, CALM},
+    READY_ANY = {"ready, random", any, nobody, FIRST_CONDITION, FORWARDS, never, &FEW, CALM},
+    WAITING = {"waiting", equal, everybody, FIRST_CONDITION, FORWARDS, never, &FEW, CALM},
+    WAITING_ANY = {"waiting, random", any, everybody, FIRST_CONDITION, FORWARDS, never, &FEW, CALM},
+    WAITING_SPREAD = {"waiting on 255", any, everybody, EACH_CONDITION, FORWARDS, never, &MANY_CONDITIONS, CALM},
     /* the last process holds the lock for which the others queue */
-    BLOCKED = {"blocked, random", any, all_but_last, FIRST_LOCK, FORWARDS, never, &FEW},
+    BLOCKED = {"blocked, random", any, all_but_last, FIRST_LOCK, FORWARDS, never, &FEW, CALM},
     /* the last but one runs, and is to queue with them */
-    QUEUE = {"behind all", equal, all_but_last_two, FIRST_LOCK, FORWARDS, never, &FEW},
-    QUEUE_AMIDST = {"amidst", half_lower, all_but_last_two, FIRST_LOCK, FORWARDS, never, &FEW},
+    QUEUE = {"behind all", equal, all_but_last_two, FIRST_LOCK, FORWARDS, never, &FEW, CALM},
+    QUEUE_AMIDST = {"amidst", half_lower, all_but_last_two, FIRST_LOCK, FORWARDS, never, &FEW, CALM},
     /* the last process holds the lock, and is to wait where the others wait: on the first condition */
-    MONITOR = {"behind all", equal, all_but_last, HOLDERS_CONDITION, FORWARDS, never, &FEW},
-    MONITOR_AMIDST = {"amidst", half_lower, all_but_last, HOLDERS_CONDITION, FORWARDS, never, &FEW},
+    MONITOR = {"behind all", equal, all_but_last, HOLDERS_CONDITION, FORWARDS, never, &FEW, CALM},
+    MONITOR_AMIDST = {"amidst", half_lower, all_but_last, HOLDERS_CONDITION, FORWARDS, never, &FEW, CALM},
     /* everybody waits with a timer, by the order of the timers */
-    TIMED_RISING = {"timers rising", equal, everybody, FIRST_CONDITION, FORWARDS, in_turn, &FEW},
-    TIMED_FALLING = {"timers falling", equal, everybody, FIRST_CONDITION, FORWARDS, last_first, &FEW},
-    TIMED_ANY = {"timers random", equal, everybody, FIRST_CONDITION, FORWARDS, any_tick, &FEW},
-    HALF = {"half, random", any, odd_but_first, FIRST_CONDITION, FORWARDS, never, &FEW},
+    TIMED_RISING = {"timers rising", equal, everybody, FIRST_CONDITION, FORWARDS, in_turn, &FEW, CALM},
+    TIMED_FALLING = {"timers falling", equal, everybody, FIRST_CONDITION, FORWARDS, last_first, &FEW, CALM},
+    TIMED_ANY = {"timers random", equal, everybody, FIRST_CONDITION, FORWARDS, any_tick, &FEW, CALM},
+    HALF = {"half, random", any, odd_but_first, FIRST_CONDITION, FORWARDS, never, &FEW, CALM},
     /* those who wake: one runs, and all others wait */
-    EQUAL = {"equal", equal, all_but_last, FIRST_CONDITION, FORWARDS, next_tick, &FEW},
-    ANY = {"random", any, all_but_last, FIRST_CONDITION, FORWARDS, next_tick, &FEW},
-    RISING = {"rising", rising, all_but_last, FIRST_CONDITION, FORWARDS, next_tick, &FEW},
-    REVERSED = {"reversed", equal, all_but_last, FIRST_CONDITION, BACKWARDS, next_tick, &FEW},
-    LOW_RUNNER = {"above the runner", low_runner, all_but_last, FIRST_CONDITION, BACKWARDS, next_tick, &FEW},
-    SPREAD = {"on all of 255", any, all_but_last, EACH_CONDITION, BACKWARDS, next_tick, &MANY_CONDITIONS},
-    LAST = {"on the last of 255", any, all_but_last, LAST_CONDITION, BACKWARDS, next_tick, &MANY_CONDITIONS},
+    EQUAL = {"equal", equal, all_but_last, FIRST_CONDITION, FORWARDS, next_tick, &FEW, CALM},
+    ANY = {"random", any, all_but_last, FIRST_CONDITION, FORWARDS, next_tick, &FEW, CALM},
+    RISING = {"rising", rising, all_but_last, FIRST_CONDITION, FORWARDS, next_tick, &FEW, CALM},
+    REVERSED = {"reversed", equal, all_but_last, FIRST_CONDITION, BACKWARDS, next_tick, &FEW, CALM},
+    LOW_RUNNER = {"above the runner", low_runner, all_but_last, FIRST_CONDITION, BACKWARDS, next_tick, &FEW, CALM},
+    SPREAD = {"on all of 255", any, all_but_last, EACH_CONDITION, BACKWARDS, next_tick, &MANY_CONDITIONS, CALM},
+    LAST = {"on the last of 255", any, all_but_last, LAST_CONDITION, BACKWARDS, next_tick, &MANY_CONDITIONS, CALM},
     /* half are ready, and those who wake join in their midst */
-    AMIDST = {"amidst the ready", layered, odd_but_first, FIRST_CONDITION, BACKWARDS, next_tick, &FEW},
+    AMIDST = {"amidst the ready", layered, odd_but_first, FIRST_CONDITION, BACKWARDS, next_tick, &FEW, CALM},
+    /* all others wait where an alarm calls off one of them, and the last runs */
+    ALARM = {"on one", equal, all_but_last, FIRST_CONDITION, FORWARDS, never, &FEW, ABORTABLE},
+    ALARM_SPREAD = {"on all of 255", any, all_but_last, EACH_CONDITION, FORWARDS, never, &MANY_CONDITIONS, ABORTABLE},
+    /* who runs is aborted: all are ready, or it holds the lock and is to wait where the others wait */
+    CALLED_OFF = {"ready", equal, nobody, FIRST_CONDITION, FORWARDS, never, &FEW, ABORTED},
+    HOLDER_CALLED_OFF = {"behind all", equal, all_but_last, HOLDERS_CONDITION, FORWARDS, never, &FEW, ABORTED},
     /* as many queues as there can be, 519: all processes in ready, or spread over all kinds */
-    MOST_READY = {"519, ready", any, nobody, FIRST_CONDITION, FORWARDS, never, &MOST},
-    MOST_SPREAD = {"519, spread", any, all_but_last, EACH_QUEUE, FORWARDS, never, &MOST};
+    MOST_READY = {"519, ready", any, nobody, FIRST_CONDITION, FORWARDS, never, &MOST, CALM},
+    MOST_SPREAD = {"519, spread", any, all_but_last, EACH_QUEUE, FORWARDS, never, &MOST, CALM};
 
 /* A scene of a size, and copies of it, as many as a small cache holds. */
 struct bench {
@@ -227,6 +239,7 @@ struct bench {
     struct counts counts;
     uint16_t waited_on; /* the condition on which those of a scene wait who wait on one */
     uint16_t middle;    /* the process in the middle of ready */
+    uint16_t last;      /* the last who waits on the last condition on which somebody does; 0 if nobody does */
     size_t words, stride, copies;
     uint8_t priorities[MAX_PROCESSES];
     uint16_t scene[MAX_WORDS];
@@ -295,6 +308,26 @@ static void hold_locks(struct bench *b)
     plain_requeue(b->scene, b->words, 0, 1, b->processes);
 }
 
+static uint16_t last_waiting(struct bench *b)
+{
+    for (uint16_t condition = b->counts.conditions; condition > 0; condition--) {
+        unsigned count = KERNEL_COUNT(plain_list(b->scene, b->words, 3, condition, b->buffer, b->processes));
+        if (count > 0)
+            return b->buffer[count - 1];
+    }
+    return 0;
+}
+
+static void set_alarm(struct bench *b, enum alarm alarm)
+{
+    if (alarm == CALM)
+        return;
+    for (uint16_t condition = 1; condition <= b->counts.conditions; condition++)
+        plain_set_abortable(b->scene, b->words, condition, 1);
+    if (alarm == ABORTED)
+        plain_abort(b->scene, b->words, b->buffer[0]);
+}
+
 static void make(struct bench *b, const struct scene *s, uint16_t processes)
 {
     memset(b, 0, sizeof *b);
@@ -316,6 +349,8 @@ static void make(struct bench *b, const struct scene *s, uint16_t processes)
         plain_requeue(b->scene, b->words, 1, 0, (uint16_t)process);
     unsigned ready = KERNEL_COUNT(plain_list(b->scene, b->words, 0, 0, b->buffer, processes));
     b->middle = b->buffer[ready / 2];
+    set_alarm(b, s->alarm);
+    b->last = last_waiting(b);
 }
 
 /* The work of a row, on a copy of its scene. It answers a sum of answers. */
@@ -367,6 +402,26 @@ static uint64_t do_naked_enter_wait(const struct calls *c, struct bench *b, uint
 static uint64_t do_enter_wait_notify(const struct calls *c, struct bench *b, uint16_t *area)
 {
     return c->enter(area, b->words, 1) + c->wait(area, b->words, 1, 1, 9) + c->notify(area, b->words, 1);
+}
+
+static uint64_t do_abort_last(const struct calls *c, struct bench *b, uint16_t *area)
+{
+    return c->abort(area, b->words, b->last);
+}
+
+static uint64_t do_abort_ready(const struct calls *c, struct bench *b, uint16_t *area)
+{
+    return c->abort(area, b->words, b->middle);
+}
+
+static uint64_t do_set_abortable(const struct calls *c, struct bench *b, uint16_t *area)
+{
+    return c->set_abortable(area, b->words, b->counts.conditions, 1);
+}
+
+static uint64_t do_reenter(const struct calls *c, struct bench *b, uint16_t *area)
+{
+    return c->reenter(area, b->words, 1, b->waited_on);
 }
 
 /* Nobody waits on the last condition. */
@@ -461,6 +516,14 @@ static const struct row {
     {"broadcast to none", do_broadcast_none, &READY},
     {"naked to none", do_naked_none, &READY},
     {"naked to none", do_naked_none, &WAITING},
+    {"abort, wakes", do_abort_last, &ALARM},
+    {"abort, wakes", do_abort_last, &ALARM_SPREAD},
+    {"abort, the bit alone", do_abort_ready, &READY},
+    {"set_abortable", do_set_abortable, &READY},
+    {"reenter", do_reenter, &READY},
+    {"reenter, called off", do_reenter, &CALLED_OFF},
+    {"reenter, queues", do_reenter, &QUEUE},
+    {"wait, called off", do_wait, &HOLDER_CALLED_OFF},
     {"requeue", do_requeue, &READY},
     {"requeue", do_requeue, &READY_ANY},
     {"set_priority", do_set_priority, &READY},

@@ -18,6 +18,9 @@ uint64_t plain_wait(uint16_t *area, size_t len, uint16_t lock, uint16_t conditio
 uint64_t plain_notify(uint16_t *area, size_t len, uint16_t condition);
 uint64_t plain_broadcast(uint16_t *area, size_t len, uint16_t condition);
 uint64_t plain_naked(uint16_t *area, size_t len, uint16_t condition);
+uint64_t plain_abort(uint16_t *area, size_t len, uint16_t process);
+uint64_t plain_set_abortable(uint16_t *area, size_t len, uint16_t condition, uint16_t value);
+uint64_t plain_reenter(uint16_t *area, size_t len, uint16_t lock, uint16_t condition);
 uint64_t plain_requeue(uint16_t *area, size_t len, uint16_t source, uint16_t destination,
                        uint16_t process);
 uint64_t plain_set_priority(uint16_t *area, size_t len, uint16_t priority);

@@ -115,6 +115,12 @@ static uint64_t perform(const char *line, size_t length, bool *known)
         return kernel_set_priority(area, WORDS, n[0]);
     if (IS("tick", 0))
         return kernel_tick(area, WORDS);
+    if (IS("abort", 1))
+        return kernel_abort(area, WORDS, n[0]);
+    if (IS("setabortable", 2))
+        return kernel_set_abortable(area, WORDS, n[0], n[1]);
+    if (IS("reenter", 2))
+        return kernel_reenter(area, WORDS, n[0], n[1]);
     if (count >= 4 && IS("start", count))
         return start(n, count, known);
     *known = false;

@@ -30,6 +30,9 @@ def call(draw):
         f"requeue 0 {park} {process}",
         f"setpriority {draw.randint(0, 7)}",
         "tick",
+        f"abort {process}",
+        f"setabortable {condition} {draw.randint(0, 1)}",
+        f"reenter {lock} {condition}",
     ])
 
 

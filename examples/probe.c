@@ -4,7 +4,8 @@
  * The sampler asks the converter for a temperature, waits for its interrupt, two ticks at most, and puts the reading into the store. The
  * writer copies it to flash, which takes more than two ticks. Moisture puts the moisture of its tick into the store, and skips a reading
  * where the queue for the store is long, since it would come too late. The radio reports how many temperatures were written, how many lost,
- * and the moisture. Housekeeping feeds the watchdog while the area is sound. They share the store, so a monitor lock guards it.
+ * and the moisture. Housekeeping feeds the watchdog while the area is sound. They share the store, so a monitor lock guards it. When the
+ * lid is opened a reading of the temperature is worth nothing, so an alarm calls the sampler off its wait.
  *
  * How it is built: a task is a small state machine, and a step of it makes at most one call. Every answer says who runs now, and the main
  * loop steps that task next. A task that waits or queues keeps its state, and is not stepped until an answer names it again. Where nobody
@@ -33,7 +34,7 @@ static unsigned running; /* as the last answer says */
 
 /* ---- time and printing */
 
-enum { STEPS_PER_TICK = 10, END = 14 * STEPS_PER_TICK };
+enum { STEPS_PER_TICK = 10, END = 21 * STEPS_PER_TICK };
 static unsigned now;    /* in steps; printed in ticks */
 static unsigned ticked; /* how many ticks the kernel knows of */
 
@@ -52,11 +53,12 @@ static void check(const char *who, const char *call, unsigned code)
     }
 }
 
-/* Every answer that says who runs comes by here, with what its mark means. */
-static bool called(const char *who, const char *call, uint64_t answer, const char *marked, const char *unmarked)
+/* Every answer that says who runs comes by here, with what a mark of 1 or 0 means; 2 always means the same. It answers the mark. */
+static unsigned called(const char *who, const char *call, uint64_t answer, const char *marked, const char *unmarked)
 {
+    unsigned mark = KERNEL_MARK(answer);
     check(who, call, KERNEL_CODE(answer));
-    tell(who, call, KERNEL_MARK(answer) == 1 ? marked : unmarked);
+    tell(who, call, mark == 2 ? "called off, does not take the lock" : mark == 1 ? marked : unmarked);
     if (KERNEL_MOVED(answer) > 0)
         printf(", %u made ready", KERNEL_MOVED(answer));
     if (KERNEL_RUNNING(answer) != running)
@@ -65,21 +67,33 @@ static bool called(const char *who, const char *call, uint64_t answer, const cha
         printf(" and must enter again");
     printf("\n");
     running = KERNEL_RUNNING(answer);
-    return KERNEL_MARK(answer) == 1;
+    return mark;
 }
 
 /* ---- calls of the running task */
 
 static unsigned ahead; /* how many stand before the task that entered last, if it queues */
 
+static unsigned entered(const char *call, uint64_t answer)
+{
+    char queues[40];
+    ahead = KERNEL_AHEAD(answer);
+    snprintf(queues, sizeof queues, "queues for the lock, %u ahead", ahead);
+    return called(NAMES[running], call, answer, "has the lock", queues);
+}
+
 /* Whether it has the store now. If not, it queues, and enters again when it runs again. */
 static bool enter(void)
 {
-    char queues[40];
-    uint64_t answer = kernel_enter(area, WORDS, STORE);
-    ahead = KERNEL_AHEAD(answer);
-    snprintf(queues, sizeof queues, "queues for the lock, %u ahead", ahead);
-    return called(NAMES[running], "enter store", answer, "has the lock", queues);
+    return entered("enter store", kernel_enter(area, WORDS, STORE)) == 1;
+}
+
+enum { QUEUES, HAS_LOCK, CALLED_OFF }; /* the marks of reenter */
+
+/* As enter, after a wait that an alarm can end. If one did, the task is told here, once the store is free, and does not get it. */
+static unsigned reenter(uint16_t condition)
+{
+    return entered("reenter store", kernel_reenter(area, WORDS, STORE, condition));
 }
 
 static void leave(void)
@@ -87,11 +101,12 @@ static void leave(void)
     called(NAMES[running], "exit store", kernel_exit(area, WORDS, STORE), "", "gives up the lock");
 }
 
-/* Whether it waits. If not, an interrupt that came before was kept for it. Either way it gave up the store and must enter again. */
+/* Whether it waits. If not, an interrupt that came before was kept for it, or an alarm. Either way it gave up the store and must enter
+ * again. */
 static bool wait_for(const char *call, uint16_t condition, uint16_t ticks)
 {
     return called(NAMES[running], call, kernel_wait(area, WORDS, STORE, condition, ticks), "gives up the lock and waits",
-                  "gives up the lock, takes the kept wakeup");
+                  "gives up the lock, need not wait") == 1;
 }
 
 /* ---- the converter, a device: it interrupts some steps after it was asked; every third reading comes too late */
@@ -117,6 +132,15 @@ static void ask_converter(void)
     converter.done = false;
 }
 
+static void stop_converter(void)
+{
+    converter.due = 0;
+}
+
+/* ---- the lid, a device: it interrupts when it is opened */
+
+enum { LID_OPENS = 17 * STEPS_PER_TICK + 5 };
+
 /* ---- what the lock guards */
 
 static struct {
@@ -128,7 +152,8 @@ static struct {
 
 static void sampler(void)
 {
-    static enum { BEGIN, WAIT, AGAIN, LOOK, NOTIFY, REST } state;
+    static enum { BEGIN, WAIT, AGAIN, LOOK, NOTIFY, STOP, LOSE, REST } state;
+    unsigned mark;
     switch (state) {
     case BEGIN:
         if (enter()) {
@@ -141,20 +166,36 @@ static void sampler(void)
         state = wait_for("wait converted 2", CONVERTED, 2) ? LOOK : AGAIN;
         break;
     case AGAIN: /* the kept wakeup was that of a lost reading */
-        if (enter())
+        mark = reenter(CONVERTED);
+        if (mark == CALLED_OFF)
+            state = STOP;
+        else if (mark == HAS_LOCK)
             state = WAIT;
         break;
-    case LOOK: /* woken by the converter or, if it is not done, by the clock */
+    case LOOK: /* woken by the lid, by the converter or, if it is not done, by the clock */
+        mark = reenter(CONVERTED);
+        if (mark == CALLED_OFF) {
+            state = STOP;
+        } else if (mark == HAS_LOCK && converter.done) {
+            store.full = true;
+            store.celsius = newest()->celsius;
+            state = NOTIFY;
+        } else if (mark == HAS_LOCK) {
+            tell("sampler", "", "no reading in time\n");
+            store.lost++;
+            state = REST;
+        }
+        break;
+    case STOP: /* it has no lock: it sees to the converter, which is its own, and leaves the store alone */
+        tell("sampler", "", "stops the converter\n");
+        stop_converter();
+        state = LOSE;
+        break;
+    case LOSE: /* the alarm is over, and the store is entered as always */
         if (enter()) {
-            if (converter.done) {
-                store.full = true;
-                store.celsius = newest()->celsius;
-                state = NOTIFY;
-            } else {
-                tell("sampler", "", "no reading in time\n");
-                store.lost++;
-                state = REST;
-            }
+            tell("sampler", "", "counts the reading as lost\n");
+            store.lost++;
+            state = REST;
         }
         break;
     case NOTIFY:
@@ -281,7 +322,7 @@ static void nobody(void)
         printf("sleeps until %s is due, ticks left: %u\n", NAMES[KERNEL_NEAREST_PROCESS(answer)], (unsigned)left);
         alarm = (ticked + left) * STEPS_PER_TICK;
     }
-    while (now + 1 < END && now + 1 != alarm && now + 1 != converter.due)
+    while (now + 1 < END && now + 1 != alarm && now + 1 != converter.due && now + 1 != LID_OPENS)
         now++;
 }
 
@@ -297,6 +338,8 @@ static void interrupts(void)
         converter.done = true;
         called("converter", "naked converted", kernel_naked(area, WORDS, CONVERTED), "nobody waits, wakeup kept", "a reading");
     }
+    if (now == LID_OPENS)
+        called("lid", "abort sampler", kernel_abort(area, WORDS, SAMPLER), "", "the lid is open");
 }
 
 int main(void)
@@ -307,6 +350,7 @@ int main(void)
     printf("tick  who           call              what comes of it\n");
     called("probe", "start", kernel_start(area, WORDS, PROCESSES, LOCKS, CONDITIONS, PARKS, PRIORITIES, sizeof PRIORITIES), "",
            "all ready");
+    called("probe", "set_abortable", kernel_set_abortable(area, WORDS, CONVERTED, 1), "", "an alarm ends a wait for the converter");
     for (now = 1; now < END; now++) {
         interrupts();
         STEPS[running]();

@@ -15,13 +15,15 @@
  * reads no word of the area beyond its size (KERNEL_AREA_WORDS) and writes none. Calls on one area must not run at the same time: mask
  * interrupts around a call, or make every call from one place.
  *
- * Time: a call first checks the area, every process and every queue once. What it does beyond that is at worst linear, but for due, which
- * sorts, whatever the priorities, the order and the number of those who wake. In steps from a process to the next of its queue, with P
- * processes and C conditions: P for enter, exit, wait, notify, naked, set_priority and broadcast, of which enter and wait walk the queue
- * that their process joins once, to count who is ahead; 2 P for requeue, which looks for the process first; P + C for a tick at which
- * somebody is due, with two passes over the P timers, and one pass over these where nobody is; P for list, 2 P into a buffer of fewer than
- * P words. nearest takes one pass over the timers; due takes one where nobody is due, else two, and about n log n steps to sort the n that
- * it tells. sheet walks every queue once, which is P steps in all, and writes 29 bytes a queue. README.md has measured times.
+ * Time: a call first checks the area, every process and every queue once. What it does beyond that is at worst linear, but for due,
+ * which sorts, whatever the priorities, the order and the number of those who wake. In steps from a process to the next of its queue,
+ * with P processes and C conditions: P for enter, reenter, exit, wait, notify, naked, set_priority and broadcast, of which enter,
+ * reenter and wait walk the queue that their process joins once, to count who is ahead; 2 P for requeue, which looks for the process
+ * first; P + C for an abort of a process that waits, which is looked for on the abortable conditions, and none where it does not wait;
+ * none for set_abortable; P + C for a tick at which somebody is due, with two passes over the P timers, and one pass over these where
+ * nobody is; P for list, 2 P into a buffer of fewer than P words. nearest takes one pass over the timers; due takes one where nobody is
+ * due, else two, and about n log n steps to sort the n that it tells. sheet walks every queue once, which is P steps in all, and writes
+ * 29 bytes a queue. README.md has measured times.
  *
  * A call takes less than 416 bytes of stack (320 measured at most, on x86-64). */
 #ifndef KERNEL_H
@@ -36,18 +38,18 @@ extern "C" {
 
 /* ---- answers
  *
- * An answer is one number, ten bits a field. kernel_start and the nine changing calls answer six fields: */
+ * An answer is one number, ten bits a field. kernel_start and the twelve changing calls answer six fields: */
 
 #define KERNEL_CODE(a) ((unsigned)((a) & 1023u))            /* 0: accepted, else one of the codes below */
 #define KERNEL_RUNNING(a) ((unsigned)((a) >> 10 & 1023u))   /* the process that runs now, 0 if none is ready */
 #define KERNEL_RETRY(a) ((unsigned)((a) >> 20 & 1023u))     /* 1: this process failed to enter a lock and must enter again */
-#define KERNEL_MARK(a) ((unsigned)((a) >> 30 & 1023u))      /* told at each call; else 0 */
+#define KERNEL_MARK(a) ((unsigned)((a) >> 30 & 1023u))      /* 0, 1 or 2: told at each call; else 0 */
 #define KERNEL_MOVED(a) ((unsigned)((a) >> 40 & 1023u))     /* how many processes came into ready from another queue */
 #define KERNEL_AHEAD(a) ((unsigned)((a) >> 50 & 1023u))     /* how many stand before the caller in the queue that it joined; else 0 */
 
-/* The last is told by kernel_enter when it queues and by kernel_wait when it waits, and by nothing else. So a task learns in the same call
- * how long the queue is. It stays there until its turn comes, but it can decide to skip a reading that would come too late: it keeps
- * this in its state, and when it runs again it goes on without. examples/probe.c has such a task. */
+/* The last is told by kernel_enter and kernel_reenter when they queue and by kernel_wait when it waits, and by nothing else. So a task
+ * learns in the same call how long the queue is. It stays there until its turn comes, but it can decide to skip a reading that would come
+ * too late: it keeps this in its state, and when it runs again it goes on without. examples/probe.c has such a task. */
 
 /* kernel_list answers two: the code, and */
 #define KERNEL_COUNT(a) ((unsigned)((a) >> 10 & 1023u))     /* how many processes were written */
@@ -75,7 +77,7 @@ extern "C" {
 #define KERNEL_BAD_PRIORITY 4 /* a priority above 7 */
 #define KERNEL_SHORT 5        /* the area, the buffer or the page is too short */
 #define KERNEL_NOBODY 6       /* nobody runs */
-#define KERNEL_NO_SUCH 7      /* no such lock, condition, park, process or queue */
+#define KERNEL_NO_SUCH 7      /* no such lock, condition, park, process or queue; a value above 1 */
 #define KERNEL_HELD 8         /* the running process holds the lock already */
 #define KERNEL_NOT_HELD 9     /* the running process does not hold the lock */
 #define KERNEL_NOT_THERE 10   /* the process does not stand in the source queue */
@@ -89,9 +91,9 @@ extern "C" {
 /* how many bytes the page of kernel_sheet takes for these, at most 15,051 */
 #define KERNEL_PAGE_BYTES(locks, conditions, parks) (29u * (1u + (parks) + (locks) + (conditions)))
 
-/* Makes an area anew, whatever it holds: clock 0, every process in ready by its priority, locks free, no timer. processes 1 to 1,023,
- * locks and conditions 0 to 255, parks 0 to 8; priorities has one byte for each process. Words beyond the area's size stay.
- * Codes: 2, 3, 4, 5. */
+/* Makes an area anew, whatever it holds: clock 0, every process in ready by its priority, locks free, no timer, nobody aborted and no
+ * condition abortable. processes 1 to 1,023, locks and conditions 0 to 255, parks 0 to 8; priorities has one byte for each process. Words
+ * beyond the area's size stay. Codes: 2, 3, 4, 5. */
 uint64_t kernel_start(uint16_t *area, size_t len, uint16_t processes, uint16_t locks, uint16_t conditions, uint16_t parks,
                       const uint8_t *priorities, size_t count);
 
@@ -102,7 +104,7 @@ uint64_t kernel_sound(const uint16_t *area, size_t len);
 
 /* The running process takes the lock (mark 1), or, where it is held, becomes failed and queues for it (mark 0): when it runs again the
  * answer has retry 1, and it must enter again. If it queues, KERNEL_AHEAD says how many stand before it: those of its priority or a
- * higher one. Codes: 1, 6, 7, 8. */
+ * higher one. An abort makes no difference to it: the entry after a wait that may be called off is kernel_reenter. Codes: 1, 6, 7, 8. */
 uint64_t kernel_enter(uint16_t *area, size_t len, uint16_t lock);
 
 /* The running process leaves the lock; the first that queues for it, if any, comes into ready. Codes: 1, 6, 7, 9. */
@@ -112,7 +114,8 @@ uint64_t kernel_exit(uint16_t *area, size_t len, uint16_t lock);
 
 /* The running process leaves the lock and waits on the condition (mark 1) until it is notified or, if ticks is not 0, that many ticks
  * have gone by; it must enter the lock again then. If it waits, KERNEL_AHEAD says how many wait there before it: kernel_notify wakes these
- * first. If a wakeup was stored by kernel_naked, it takes that and goes on (mark 0).
+ * first. If a wakeup was stored by kernel_naked, it takes that and goes on (mark 0). If it is aborted and the condition is abortable, it
+ * leaves the lock and goes on too (mark 0), and a stored wakeup stays, as does its abort: kernel_reenter then says that it was called off.
  *
  * A wait of t ticks lasts t ticks: unless another call wakes its process, the t-th tick does, and no earlier one, at whatever clock. Here
  * the kernel leaves chapter 10 of the Mesa manual. There timer 0 stands for no timer, so that a wait which falls due at clock 0 is put off
@@ -128,6 +131,32 @@ uint64_t kernel_broadcast(uint16_t *area, size_t len, uint16_t condition);
 
 /* A device's notify, for interrupt handlers: the first that waits wakes; if nobody waits, a wakeup is stored (mark 1). Codes: 1, 7. */
 uint64_t kernel_naked(uint16_t *area, size_t len, uint16_t condition);
+
+/* ---- alarms: a task is called off its wait
+ *
+ * A process is aborted or not, and a condition abortable or not. An abort ends a wait on an abortable condition, and an aborted process
+ * begins none there. Nothing else comes of it: who waits on another condition, queues for a lock or is parked stays where it is. A process
+ * is aborted until it takes the abort by kernel_reenter. So a task waits in three calls:
+ *
+ *     kernel_enter    mark 1: it has the lock and goes on; 0: it queues, and enters again when it runs again
+ *     kernel_wait     whatever the mark, it goes on to the next when it runs again
+ *     kernel_reenter  mark 1: it has the lock; 0: it queues, and reenters when it runs again; 2: it was called off, and has no lock
+ *
+ * examples/probe.c has such a task. */
+
+/* The process is aborted, also if it was before. If it waits on an abortable condition, it wakes as by kernel_notify, whoever waits there
+ * before it. Interrupt handlers may call it: it asks for nobody who runs. Codes: 1, 7. */
+uint64_t kernel_abort(uint16_t *area, size_t len, uint16_t process);
+
+/* Makes a condition abortable (value 1) or no longer so (value 0). It moves nobody: an aborted process that waits there waits on, until it
+ * is aborted again or wakes otherwise. Codes: 1, 7 (either number; value above 1). */
+uint64_t kernel_set_abortable(uint16_t *area, size_t len, uint16_t condition, uint16_t value);
+
+/* The entry after a wait on this condition. Where the lock is free, the running process aborted and the condition abortable, the process
+ * was called off: it takes no lock, and is aborted no more (mark 2). Otherwise it is kernel_enter: it takes the lock (mark 1) or queues
+ * for it (mark 0), with KERNEL_AHEAD before it. A held lock never takes the abort away; who queues learns of it when it reenters.
+ * Codes: 1, 6, 7 (either number), 8. */
+uint64_t kernel_reenter(uint16_t *area, size_t len, uint16_t lock, uint16_t condition);
 
 /* ---- queues, priorities, the clock */
 

@@ -5,7 +5,7 @@ use std::env;
 use std::path::{Path, PathBuf};
 use std::process::Command;
 
-const EXPORTS: [&str; 15] = [
+const EXPORTS: [&str; 18] = [
     "kernel_start",
     "kernel_sound",
     "kernel_enter",
@@ -14,6 +14,9 @@ const EXPORTS: [&str; 15] = [
     "kernel_notify",
     "kernel_broadcast",
     "kernel_naked",
+    "kernel_abort",
+    "kernel_set_abortable",
+    "kernel_reenter",
     "kernel_requeue",
     "kernel_set_priority",
     "kernel_tick",

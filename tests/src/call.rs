@@ -26,6 +26,15 @@ pub enum Call {
     },
     SetPriority(u16),
     Tick,
+    Abort(u16),
+    SetAbortable {
+        condition: u16,
+        value: u16,
+    },
+    Reenter {
+        lock: u16,
+        condition: u16,
+    },
 }
 
 impl Call {
@@ -35,6 +44,22 @@ impl Call {
             destination,
             process,
         }
+    }
+
+    pub fn wait(lock: u16, condition: u16, ticks: u16) -> Self {
+        Call::Wait {
+            lock,
+            condition,
+            ticks,
+        }
+    }
+
+    pub fn set_abortable(condition: u16, value: u16) -> Self {
+        Call::SetAbortable { condition, value }
+    }
+
+    pub fn reenter(lock: u16, condition: u16) -> Self {
+        Call::Reenter { lock, condition }
     }
 
     pub fn name(&self) -> &'static str {
@@ -49,6 +74,9 @@ impl Call {
             Call::Requeue { .. } => "requeue",
             Call::SetPriority(_) => "setpriority",
             Call::Tick => "tick",
+            Call::Abort(_) => "abort",
+            Call::SetAbortable { .. } => "setabortable",
+            Call::Reenter { .. } => "reenter",
         }
     }
 }

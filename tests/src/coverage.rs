@@ -11,7 +11,7 @@ pub struct Coverage {
 }
 
 /// Each call with the codes that a sound area can answer.
-const CODES: [(&str, &[u16]); 9] = [
+const CODES: [(&str, &[u16]); 12] = [
     ("enter", &[0, 6, 7, 8]),
     ("exit", &[0, 6, 7, 9]),
     ("wait", &[0, 6, 7, 9]),
@@ -21,6 +21,9 @@ const CODES: [(&str, &[u16]); 9] = [
     ("requeue", &[0, 7, 10]),
     ("setpriority", &[0, 4, 6]),
     ("tick", &[0]),
+    ("abort", &[0, 7]),
+    ("setabortable", &[0, 7]),
+    ("reenter", &[0, 6, 7, 8]),
 ];
 
 const EVENTS: [&str; 9] = [
@@ -51,8 +54,47 @@ const AT_ZERO: [&str; 3] = [
     "tick to clock 0 passes over who waits unarmed",
 ];
 
+/// What happens by abort and abortable.
+const ALARMS: [&str; 29] = [
+    "abort wakes the first of a condition",
+    "abort wakes another of a condition",
+    "abort wakes who is armed",
+    "abort wakes where nobody runs",
+    "abort in a condition that isn't abortable",
+    "abort at a lock",
+    "abort in ready",
+    "abort of who runs",
+    "abort in a park",
+    "abort again",
+    "abort again wakes",
+    "setabortable to 0",
+    "setabortable to 1",
+    "setabortable to 0 over an aborted waiter",
+    "setabortable to 1 over an aborted waiter",
+    "setabortable over wakeup",
+    "reenter with mark 1",
+    "reenter with mark 1 before a queue",
+    "reenter with mark 1 in spite of abort",
+    "reenter with mark 2",
+    "reenter with mark 2 before a queue",
+    "reenter of a held lock",
+    "reenter of a held lock with abort, abortable",
+    "wait over abort",
+    "wait over abort and wakeup",
+    "wait over abort with somebody at the lock",
+    "wait over abort with nobody at the lock",
+    "wait with abort where it isn't abortable",
+    "wait over wakeup, abortable",
+];
+
+/// Who wakes otherwise keeps its abort, and the condition its abortable.
+const KEEPERS: [&str; 4] = ["notify", "broadcast", "naked", "tick"];
+
 /// How often each way to join and each of what happens at clock 0 is demanded.
 const OFTEN: u64 = 100;
+
+/// How often each of what happens by abort, and each way to join by Reenter, is demanded.
+const SOME: u64 = 30;
 
 /// The events of histories whose clock goes round.
 const ROUND: [&str; 3] = [
@@ -82,6 +124,9 @@ impl Coverage {
             self.longest_lock_queue = self.longest_lock_queue.max(lock.queue.len());
         }
         self.meet_if(answer.retry == 1, "retry");
+        if KEEPERS.contains(&call.name()) {
+            self.note_kept(before, call.name(), after);
+        }
         match *call {
             Call::Broadcast(_) => self.meet_if(answer.moved > 1, "broadcast moves several"),
             Call::Tick => self.note_tick(before, answer, after),
@@ -100,8 +145,24 @@ impl Coverage {
                 destination,
                 ..
             } => self.meet_if(source == destination, "requeue within one queue"),
-            Call::Wait { condition, .. } => {
-                self.note_wait(before, answer, after);
+            Call::Abort(process) => self.note_abort(before, process, answer),
+            Call::SetAbortable { condition, value } => {
+                self.note_set_abortable(before, condition, value)
+            }
+            Call::Reenter { lock, condition } => {
+                self.note_reenter(before, lock, condition, answer);
+                if answer.mark == 0 {
+                    self.note_join(before, "reenter", Queue::Lock(lock), answer);
+                }
+            }
+            Call::Wait {
+                lock, condition, ..
+            } => {
+                if called_off(before, condition) {
+                    self.note_called_off(before, lock, condition);
+                    return;
+                }
+                self.note_wait(before, condition, answer, after);
                 if answer.mark == 1 {
                     self.note_join(before, "wait", Queue::Condition(condition), answer);
                 }
@@ -144,8 +205,95 @@ impl Coverage {
         self.meet_if(answer.moved > 0 && round, "tick wakes in a later round");
     }
 
-    fn note_wait(&mut self, before: &State, answer: &Answer, after: &State) {
+    /// Whoever was woken by the call had abort, or stood in an abortable condition.
+    fn note_kept(&mut self, before: &State, name: &str, after: &State) {
+        for process in 1..=before.shape.processes {
+            if !before.record(process).waiting || after.record(process).waiting {
+                continue;
+            }
+            let kept = before.record(process).abort;
+            self.meet_if(kept, &format!("{name} wakes who has abort"));
+            if let Queue::Condition(condition) = before.lies(process) {
+                let kept = before.condition(condition).abortable;
+                self.meet_if(kept, &format!("{name} wakes where it is abortable"));
+            }
+        }
+    }
+
+    fn note_abort(&mut self, before: &State, process: u16, answer: &Answer) {
+        let record = before.record(process);
+        let place = before.lies(process);
+        let wakes = answer.moved == 1;
+        let first = before.queue(place).first() == Some(&process);
+        let waits = matches!(place, Queue::Condition(_));
+        self.meet_if(wakes && first, "abort wakes the first of a condition");
+        self.meet_if(wakes && !first, "abort wakes another of a condition");
+        self.meet_if(wakes && record.armed, "abort wakes who is armed");
+        self.meet_if(
+            wakes && before.running == 0,
+            "abort wakes where nobody runs",
+        );
+        self.meet_if(waits && !wakes, "abort in a condition that isn't abortable");
+        self.meet_if(matches!(place, Queue::Lock(_)), "abort at a lock");
+        self.meet_if(place == Queue::Ready, "abort in ready");
+        self.meet_if(process == before.running, "abort of who runs");
+        self.meet_if(matches!(place, Queue::Park(_)), "abort in a park");
+        self.meet_if(record.abort, "abort again");
+        self.meet_if(record.abort && wakes, "abort again wakes");
+    }
+
+    fn note_set_abortable(&mut self, before: &State, condition: u16, value: u16) {
+        let one = before.condition(condition);
+        let over = one
+            .queue
+            .iter()
+            .any(|&process| before.record(process).abort);
+        let name = format!("setabortable to {value}");
+        self.meet(&name);
+        self.meet_if(over, &format!("{name} over an aborted waiter"));
+        self.meet_if(one.wakeup, "setabortable over wakeup");
+    }
+
+    fn note_reenter(&mut self, before: &State, lock: u16, condition: u16, answer: &Answer) {
+        let queued = !before.lock(lock).queue.is_empty();
+        let abort = before.record(before.running).abort;
+        let off = called_off(before, condition);
+        match answer.mark {
+            0 => {
+                self.meet("reenter of a held lock");
+                self.meet_if(off, "reenter of a held lock with abort, abortable");
+            }
+            mark => {
+                let name = format!("reenter with mark {mark}");
+                self.meet(&name);
+                self.meet_if(queued, &format!("{name} before a queue"));
+                self.meet_if(abort, &format!("{name} in spite of abort"));
+            }
+        }
+    }
+
+    /// A Wait whose caller was called off before.
+    fn note_called_off(&mut self, before: &State, lock: u16, condition: u16) {
+        let queued = !before.lock(lock).queue.is_empty();
+        self.meet("wait over abort");
+        self.meet_if(
+            before.condition(condition).wakeup,
+            "wait over abort and wakeup",
+        );
+        self.meet_if(queued, "wait over abort with somebody at the lock");
+        self.meet_if(!queued, "wait over abort with nobody at the lock");
+    }
+
+    fn note_wait(&mut self, before: &State, condition: u16, answer: &Answer, after: &State) {
         let caller = before.running;
+        self.meet_if(
+            answer.mark == 1 && before.record(caller).abort,
+            "wait with abort where it isn't abortable",
+        );
+        self.meet_if(
+            answer.mark == 0 && before.condition(condition).abortable,
+            "wait over wakeup, abortable",
+        );
         let priority = before.record(caller).priority;
         let equals = before.ready[1..]
             .iter()
@@ -162,21 +310,28 @@ impl Coverage {
         }
     }
 
-    /// Each call with each of its codes and each event at least once, each way to join and what
-    /// happens at clock 0 often.
+    /// Each call with each of its codes and each event at least once; each way to join, what
+    /// happens at clock 0 and what happens by abort often.
     pub fn demand_all(&self) -> Result<(), String> {
         for (name, codes) in CODES {
             for code in codes {
                 self.demand(&format!("{name} {code}"))?;
             }
         }
-        for name in ["enter", "wait"] {
+        for (name, least) in [("enter", OFTEN), ("reenter", SOME), ("wait", OFTEN)] {
             for how in JOINS {
-                self.demand_often(&format!("{name} {how}"))?;
+                self.demand_often(&format!("{name} {how}"), least)?;
             }
         }
         for event in AT_ZERO {
-            self.demand_often(event)?;
+            self.demand_often(event, OFTEN)?;
+        }
+        for event in ALARMS {
+            self.demand_often(event, SOME)?;
+        }
+        for name in KEEPERS {
+            self.demand_often(&format!("{name} wakes who has abort"), SOME)?;
+            self.demand_often(&format!("{name} wakes where it is abortable"), SOME)?;
         }
         EVENTS.iter().try_for_each(|event| self.demand(event))
     }
@@ -196,10 +351,15 @@ impl Coverage {
         }
     }
 
-    fn demand_often(&self, what: &str) -> Result<(), String> {
+    fn demand_often(&self, what: &str, least: u64) -> Result<(), String> {
         match self.count(what) {
-            OFTEN.. => Ok(()),
+            count if count >= least => Ok(()),
             count => Err(format!("histories met only {count} times: {what}")),
         }
     }
+}
+
+/// Whether who runs has abort, and the condition is abortable.
+fn called_off(state: &State, condition: u16) -> bool {
+    state.record(state.running).abort && state.condition(condition).abortable
 }

@@ -2,21 +2,27 @@
 //! damage to words.
 
 use crate::random::Random;
-use crate::reference::{Queue, Shape, State};
+use crate::reference::{Queue, Record, Shape, State};
 use crate::sample;
 
 type Break = fn(&mut Random, &mut State) -> Option<()>;
 
 /// Each breaks one clause of a sound state, or finds nothing to break in it.
-pub const BREAKS: [(&str, Break); 22] = [
+pub const BREAKS: [(&str, Break); 25] = [
     ("holder in its own ring", holder_in_its_own_ring),
     ("wakeup over a ring", wakeup_over_a_ring),
+    (
+        "wakeup over an abortable ring",
+        wakeup_over_an_abortable_ring,
+    ),
     ("locked without holder", locked_without_holder),
     ("holder without locked", holder_without_locked),
     ("running isn't the first", running_is_another),
     ("running is failed", running_is_failed),
     ("waiting outside conditions", waiting_outside),
     ("not waiting in a condition", not_waiting_inside),
+    ("abort in place of waiting", abort_in_place_of_waiting),
+    ("abort and waiting outside", abort_and_waiting_outside),
     ("timer set outside", timer_outside),
     ("armed in ready", |random, state| {
         armed_in(random, state, is_ready)
@@ -102,6 +108,15 @@ fn wakeup_over_a_ring(random: &mut Random, state: &mut State) -> Option<()> {
     Some(())
 }
 
+fn wakeup_over_an_abortable_ring(random: &mut Random, state: &mut State) -> Option<()> {
+    let Queue::Condition(condition) = filled(random, state, 1, is_condition)? else {
+        return None;
+    };
+    state.condition_mut(condition).abortable = true;
+    state.condition_mut(condition).wakeup = true;
+    Some(())
+}
+
 fn locked_without_holder(random: &mut Random, state: &mut State) -> Option<()> {
     let lock = some_lock(random, state)?;
     state.lock_mut(lock).locked = true;
@@ -149,6 +164,23 @@ fn not_waiting_inside(random: &mut Random, state: &mut State) -> Option<()> {
     record.waiting = false;
     record.armed = false;
     record.timer = 0;
+    Some(())
+}
+
+fn abort_in_place_of_waiting(random: &mut Random, state: &mut State) -> Option<()> {
+    let process = member(random, state, is_condition)?;
+    *state.record_mut(process) = Record {
+        priority: state.record(process).priority,
+        abort: true,
+        ..Record::default()
+    };
+    Some(())
+}
+
+fn abort_and_waiting_outside(random: &mut Random, state: &mut State) -> Option<()> {
+    let process = member(random, state, is_no_condition)?;
+    state.record_mut(process).abort = true;
+    state.record_mut(process).waiting = true;
     Some(())
 }
 
@@ -310,7 +342,8 @@ fn ring_beyond_the_count(random: &mut Random) -> Vec<u16> {
 }
 
 /// The words of a damaged state of this shape: one clause broken, by turns, where it can be; blind
-/// damage too in so many of a hundred cases; now and then cut off, or with a wrong count.
+/// damage too in so many of a hundred cases; now and then with an unnamed bit set, or a free one
+/// flipped, or cut off, or with a wrong count.
 pub fn area(random: &mut Random, shape: Shape, turn: usize, blindly: usize) -> Vec<u16> {
     let mut state = sample::state(random, shape);
     let (_, change) = BREAKS[turn % BREAKS.len()];
@@ -319,6 +352,12 @@ pub fn area(random: &mut Random, shape: Shape, turn: usize, blindly: usize) -> V
     if random.chance(blindly) {
         blind(random, &shape, &mut words);
     }
+    if random.chance(10) {
+        set_unnamed(random, &shape, &mut words);
+    }
+    if random.chance(10) {
+        flip_free(random, &shape, &mut words);
+    }
     if random.chance(5) {
         words.truncate(random.below(words.len()));
     }
@@ -326,6 +365,35 @@ pub fn area(random: &mut Random, shape: Shape, turn: usize, blindly: usize) -> V
         words = wrong_count(random);
     }
     words
+}
+
+/// Bits of a condition's word and of a flags word that have no name.
+const UNNAMED_IN_CONDITION: [u32; 4] = [0, 1, 2, 13];
+const UNNAMED_IN_FLAGS: [u32; 13] = [0, 1, 2, 3, 4, 5, 6, 7, 8, 9, 10, 11, 12];
+
+/// Sets a bit that has no name, in the word of a condition or in the flags of a process. No area
+/// is sound with it.
+pub fn set_unnamed(random: &mut Random, shape: &Shape, area: &mut [u16]) {
+    let (place, bit) = if shape.conditions > 0 && random.chance(50) {
+        let condition = random.between(1, shape.conditions);
+        let place = shape.tail_at(Queue::Condition(condition));
+        (place, random.pick(&UNNAMED_IN_CONDITION))
+    } else {
+        let place = shape.link_at(some_process(random, shape)) + 1;
+        (place, random.pick(&UNNAMED_IN_FLAGS))
+    };
+    area[place] |= 1 << (15 - bit);
+}
+
+/// Flips abort of a process or abortable of a condition, which are free in every area: it stays
+/// as sound as it was.
+pub fn flip_free(random: &mut Random, shape: &Shape, area: &mut [u16]) {
+    if shape.conditions > 0 && random.chance(50) {
+        let condition = random.between(1, shape.conditions);
+        area[shape.tail_at(Queue::Condition(condition))] ^= 2;
+    } else {
+        area[shape.link_at(some_process(random, shape)) + 1] ^= 1;
+    }
 }
 
 /// Blind damage: a word, a link, a tail or a few bits become something else. The area may

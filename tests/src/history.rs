@@ -13,6 +13,7 @@ enum Mood {
     Waiting,
     Waking,
     Ticking,
+    Alarming,
 }
 
 pub struct History {
@@ -78,7 +79,7 @@ fn until_zero(clock: u16) -> u16 {
 pub fn any_call(random: &mut Random, shape: &Shape, wrong: usize) -> Call {
     let lock = number(random, shape.locks, wrong);
     let condition = number(random, shape.conditions, wrong);
-    match random.below(9) {
+    match random.below(12) {
         0 => Call::Enter(lock),
         1 => Call::Exit(lock),
         2 => Call::Wait {
@@ -95,8 +96,19 @@ pub fn any_call(random: &mut Random, shape: &Shape, wrong: usize) -> Call {
             process: number(random, shape.processes, wrong),
         },
         7 => Call::SetPriority(priority(random, wrong)),
+        8 => Call::Abort(number(random, shape.processes, wrong)),
+        9 => Call::set_abortable(condition, value(random, wrong)),
+        10 => Call::reenter(lock, condition),
         _ => Call::Tick,
     }
+}
+
+/// 0 or 1, or now and then a number above.
+fn value(random: &mut Random, wrong: usize) -> u16 {
+    if random.chance(wrong) {
+        return random.pick(&[2, 3, 255, 256, 257, 32_768, 65_535]);
+    }
+    random.between(0, 1)
 }
 
 fn park(random: &mut Random, shape: &Shape, wrong: usize) -> u16 {
@@ -139,12 +151,13 @@ impl History {
                 Mood::Waiting,
                 Mood::Waking,
                 Mood::Ticking,
+                Mood::Alarming,
             ]);
         }
         self.left -= 1;
         let call = self.choose(random, state);
         match held(random, state) {
-            Some(lock) if matches!(call, Call::Enter(_)) && random.chance(90) => Call::Exit(lock),
+            Some(lock) if enters(&call) && random.chance(90) => Call::Exit(lock),
             _ => call,
         }
     }
@@ -159,6 +172,7 @@ impl History {
             Mood::Waiting => self.waiting(random, state),
             Mood::Waking => self.waking(random, state),
             Mood::Ticking => Call::Tick,
+            Mood::Alarming => self.alarming(random, state),
         }
     }
 
@@ -175,7 +189,7 @@ impl History {
             return self.waking(random, state);
         }
         if state.lock(1).holder != state.running {
-            return Call::Enter(1);
+            return self.enter(random, state, 1);
         }
         if state.lock(1).queue.len() + 1 >= state.ready.len() && random.chance(30) {
             return Call::Exit(1);
@@ -202,8 +216,34 @@ impl History {
                 },
             },
             Some(lock) => Call::Exit(lock),
+            None if state.running == 0 && random.chance(20) => {
+                Call::Abort(alarmed(random, state, self.wrong))
+            }
             None if state.running == 0 => Call::Tick,
-            None => Call::Enter(number(random, shape.locks, self.wrong)),
+            None => {
+                let lock = number(random, shape.locks, self.wrong);
+                self.enter(random, state, lock)
+            }
+        }
+    }
+
+    /// Enter, or Reenter where there is a condition to name.
+    fn enter(&self, random: &mut Random, state: &State, lock: u16) -> Call {
+        if state.shape.conditions == 0 || random.chance(60) {
+            return Call::Enter(lock);
+        }
+        Call::reenter(lock, number(random, state.shape.conditions, self.wrong))
+    }
+
+    /// Conditions become abortable, who waits is called off, and whoever runs waits again.
+    fn alarming(&self, random: &mut Random, state: &State) -> Call {
+        let condition = number(random, state.shape.conditions, self.wrong);
+        match random.below(8) {
+            0 => Call::set_abortable(condition, 1),
+            1 => Call::set_abortable(condition, value(random, self.wrong)),
+            2 | 3 => Call::Abort(alarmed(random, state, self.wrong)),
+            4 => self.waking(random, state),
+            _ => self.waiting(random, state),
         }
     }
 
@@ -220,6 +260,21 @@ impl History {
             },
         }
     }
+}
+
+fn enters(call: &Call) -> bool {
+    matches!(call, Call::Enter(_) | Call::Reenter { .. })
+}
+
+/// Somebody who waits, or any number of a process.
+fn alarmed(random: &mut Random, state: &State, wrong: usize) -> u16 {
+    let waiting: Vec<u16> = (1..=state.shape.processes)
+        .filter(|&process| state.record(process).waiting)
+        .collect();
+    if waiting.is_empty() || random.chance(40) {
+        return number(random, state.shape.processes, wrong);
+    }
+    random.pick(&waiting)
 }
 
 /// A lock that the running process holds.

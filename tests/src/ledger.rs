@@ -26,6 +26,8 @@ pub struct Ledger {
     pub failed: Vec<bool>,
     pub holder: Vec<u16>,
     pub wakeup: Vec<bool>,
+    pub abort: Vec<bool>,
+    pub abortable: Vec<bool>,
 }
 
 impl Ledger {
@@ -68,6 +70,8 @@ impl Ledger {
             failed: vec![false; processes as usize + 1],
             holder: vec![0; locks as usize + 1],
             wakeup: vec![false; conditions as usize + 1],
+            abort: vec![false; processes as usize + 1],
+            abortable: vec![false; conditions as usize + 1],
         };
         let answer = ledger.dispatch(0, 0, 0);
         Ok((ledger, answer))
@@ -155,7 +159,7 @@ impl Ledger {
         }
     }
 
-    /// Does one of the nine calls and answers it.
+    /// Does one of the twelve calls and answers it.
     pub fn call(&mut self, call: &Call) -> Answer {
         let refusal = self.refusal(call);
         if refusal != 0 {
@@ -164,7 +168,8 @@ impl Ledger {
         let caller = self.running;
         let (mark, moved) = self.effect(call);
         let ahead = match (call, mark) {
-            (Call::Enter(_), 0) | (Call::Wait { .. }, 1) => self.ahead(caller),
+            (Call::Enter(_) | Call::Reenter { .. }, 0) => self.ahead(caller),
+            (Call::Wait { .. }, 1) => self.ahead(caller),
             _ => 0,
         };
         self.dispatch(mark, moved, ahead)
@@ -199,6 +204,11 @@ impl Ledger {
             } => self.requeue_refusal(source, destination, process),
             Call::SetPriority(_) if idle => 6,
             Call::SetPriority(priority) if priority > 7 => 4,
+            Call::Abort(process) if !(1..=self.processes).contains(&process) => 7,
+            Call::SetAbortable { condition, value } if no_condition(condition) || value > 1 => 7,
+            Call::Reenter { .. } if idle => 6,
+            Call::Reenter { lock, condition } if no_lock(lock) || no_condition(condition) => 7,
+            Call::Reenter { lock, .. } if holds(lock) => 8,
             _ => 0,
         }
     }
@@ -222,15 +232,7 @@ impl Ledger {
         let caller = self.running;
         match *call {
             Call::Start { .. } => panic!("a history has one Start, at its beginning"),
-            Call::Enter(lock) => {
-                if self.locked(lock) {
-                    self.failed[caller as usize] = true;
-                    (0, self.note(caller, Place::Lock(lock)))
-                } else {
-                    self.holder[lock as usize] = caller;
-                    (1, 0)
-                }
-            }
+            Call::Enter(lock) => self.enter(lock),
             Call::Exit(lock) => (0, self.leave(lock)),
             Call::Wait {
                 lock,
@@ -238,6 +240,9 @@ impl Ledger {
                 ticks,
             } => {
                 let moved = self.leave(lock);
+                if self.abort[caller as usize] && self.abortable[condition as usize] {
+                    return (0, moved);
+                }
                 if std::mem::take(&mut self.wakeup[condition as usize]) {
                     return (0, moved);
                 }
@@ -275,6 +280,38 @@ impl Ledger {
                 };
                 (0, self.wake_due())
             }
+            Call::Abort(process) => {
+                self.abort[process as usize] = true;
+                match self.lies(process) {
+                    Place::Condition(condition) if self.abortable[condition as usize] => {
+                        (0, self.wake(process))
+                    }
+                    _ => (0, 0),
+                }
+            }
+            Call::SetAbortable { condition, value } => {
+                self.abortable[condition as usize] = value == 1;
+                (0, 0)
+            }
+            Call::Reenter { lock, condition } => {
+                let wanted = self.abortable[condition as usize] && !self.locked(lock);
+                if wanted && std::mem::take(&mut self.abort[caller as usize]) {
+                    return (2, 0);
+                }
+                self.enter(lock)
+            }
+        }
+    }
+
+    /// Enter, and every Reenter that is not called off: mark and how many it moved.
+    fn enter(&mut self, lock: u16) -> (u16, u16) {
+        let caller = self.running;
+        if self.locked(lock) {
+            self.failed[caller as usize] = true;
+            (0, self.note(caller, Place::Lock(lock)))
+        } else {
+            self.holder[lock as usize] = caller;
+            (1, 0)
         }
     }
 

@@ -29,6 +29,9 @@ extern "C" {
     ) -> u64;
     fn kernel_set_priority(area: *mut u16, len: usize, priority: u16) -> u64;
     fn kernel_tick(area: *mut u16, len: usize) -> u64;
+    fn kernel_abort(area: *mut u16, len: usize, process: u16) -> u64;
+    fn kernel_set_abortable(area: *mut u16, len: usize, condition: u16, value: u16) -> u64;
+    fn kernel_reenter(area: *mut u16, len: usize, lock: u16, condition: u16) -> u64;
     fn kernel_list(
         area: *const u16,
         len: usize,
@@ -123,6 +126,11 @@ pub fn perform(area: &mut [u16], call: &Call) -> u64 {
             } => kernel_requeue(words, len, source, destination, process),
             Call::SetPriority(priority) => kernel_set_priority(words, len, priority),
             Call::Tick => kernel_tick(words, len),
+            Call::Abort(process) => kernel_abort(words, len, process),
+            Call::SetAbortable { condition, value } => {
+                kernel_set_abortable(words, len, condition, value)
+            }
+            Call::Reenter { lock, condition } => kernel_reenter(words, len, lock, condition),
         }
     }
 }

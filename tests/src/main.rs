@@ -36,6 +36,7 @@ fn suites() -> Vec<Suite> {
             suites::table::on_library(tally)
         }),
         ("ahead", |tally, _| suites::ahead::run(tally)),
+        ("abort", suites::abort::run),
         ("start", suites::start::run),
         ("sound", suites::sound::run),
         ("calls", suites::calls::run),

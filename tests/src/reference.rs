@@ -31,6 +31,7 @@ pub struct Lock {
 pub struct Condition {
     pub queue: Vec<u16>,
     pub wakeup: bool,
+    pub abortable: bool,
 }
 
 #[derive(Clone, PartialEq, Eq, Debug, Default)]
@@ -40,6 +41,7 @@ pub struct Record {
     pub waiting: bool,
     pub armed: bool,
     pub timer: u16,
+    pub abort: bool,
 }
 
 impl Record {
@@ -122,6 +124,8 @@ const PRIORITY: (u32, u32) = (0, 2);
 const FAILED: (u32, u32) = (13, 13);
 const ARMED: (u32, u32) = (13, 13);
 const WAITING: (u32, u32) = (14, 14);
+const ABORT: (u32, u32) = (15, 15);
+const ABORTABLE: (u32, u32) = (14, 14);
 const WHOLE: (u32, u32) = (0, 15);
 
 fn mask((from, to): (u32, u32)) -> u16 {
@@ -223,11 +227,12 @@ fn decode(area: &[u16]) -> Option<State> {
                 });
             }
             Queue::Condition(_) => {
-                let word = reader.word(&[PROCESS, LAST])?;
+                let word = reader.word(&[PROCESS, ABORTABLE, LAST])?;
                 tails.push(reader.process(word)?);
                 conditions.push(Condition {
                     queue: Vec::new(),
                     wakeup: bits(word, LAST) == 1,
+                    abortable: bits(word, ABORTABLE) == 1,
                 });
             }
         }
@@ -236,7 +241,7 @@ fn decode(area: &[u16]) -> Option<State> {
     let mut next = Vec::new();
     for _ in 0..shape.processes {
         let link = reader.word(&[PRIORITY, PROCESS, FAILED])?;
-        let flags = reader.word(&[ARMED, WAITING])?;
+        let flags = reader.word(&[ARMED, WAITING, ABORT])?;
         let timer = reader.word(&[WHOLE])?;
         next.push(reader.process(link)?);
         records.push(Record {
@@ -245,6 +250,7 @@ fn decode(area: &[u16]) -> Option<State> {
             waiting: bits(flags, WAITING) == 1,
             armed: bits(flags, ARMED) == 1,
             timer,
+            abort: bits(flags, ABORT) == 1,
         });
     }
     let mut state = State {
@@ -461,7 +467,11 @@ impl State {
             words.push(put(lock.holder, PROCESS));
         }
         for one in &self.conditions {
-            words.push(tail(&one.queue) | put(u16::from(one.wakeup), LAST));
+            words.push(
+                tail(&one.queue)
+                    | put(u16::from(one.abortable), ABORTABLE)
+                    | put(u16::from(one.wakeup), LAST),
+            );
         }
         for (record, next) in self.records.iter().zip(self.next()) {
             words.push(
@@ -470,7 +480,9 @@ impl State {
                     | put(u16::from(record.failed), FAILED),
             );
             words.push(
-                put(u16::from(record.armed), ARMED) | put(u16::from(record.waiting), WAITING),
+                put(u16::from(record.armed), ARMED)
+                    | put(u16::from(record.waiting), WAITING)
+                    | put(u16::from(record.abort), ABORT),
             );
             words.push(record.timer);
         }
@@ -587,6 +599,9 @@ impl Step {
             } => self.requeue(source, destination, process),
             Call::SetPriority(priority) => self.set_priority(priority),
             Call::Tick => self.tick(),
+            Call::Abort(process) => self.abort(process),
+            Call::SetAbortable { condition, value } => self.set_abortable(condition, value),
+            Call::Reenter { lock, condition } => self.reenter(lock, condition),
         }
     }
 
@@ -647,6 +662,11 @@ impl Step {
         if self.running_holds(lock) {
             return Err(8);
         }
+        self.take_or_queue(lock);
+        Ok(())
+    }
+
+    fn take_or_queue(&mut self, lock: u16) {
         let running = self.state.running;
         if self.state.lock(lock).locked {
             self.state.record_mut(running).failed = true;
@@ -655,6 +675,28 @@ impl Step {
             self.state.lock_mut(lock).locked = true;
             self.state.lock_mut(lock).holder = running;
             self.mark = 1;
+        }
+    }
+
+    /// Whether the running process has abort set, and the condition is abortable.
+    fn called_off(&self, condition: u16) -> bool {
+        self.state.record(self.state.running).abort && self.state.condition(condition).abortable
+    }
+
+    /// The entry after a wait: only on a free lock may it be called off.
+    fn reenter(&mut self, lock: u16, condition: u16) -> Done {
+        self.somebody_runs()?;
+        known(lock, self.state.shape.locks)?;
+        known(condition, self.state.shape.conditions)?;
+        if self.running_holds(lock) {
+            return Err(8);
+        }
+        if !self.state.lock(lock).locked && self.called_off(condition) {
+            let running = self.state.running;
+            self.state.record_mut(running).abort = false;
+            self.mark = 2;
+        } else {
+            self.take_or_queue(lock);
         }
         Ok(())
     }
@@ -685,6 +727,9 @@ impl Step {
             return Err(9);
         }
         self.unlock(lock);
+        if self.called_off(condition) {
+            return Ok(());
+        }
         if self.state.condition(condition).wakeup {
             self.state.condition_mut(condition).wakeup = false;
             return Ok(());
@@ -726,6 +771,26 @@ impl Step {
             self.state.condition_mut(condition).wakeup = true;
             self.mark = 1;
         }
+        Ok(())
+    }
+
+    fn abort(&mut self, process: u16) -> Done {
+        known(process, self.state.shape.processes)?;
+        self.state.record_mut(process).abort = true;
+        if let Queue::Condition(condition) = self.state.lies(process) {
+            if self.state.condition(condition).abortable {
+                self.wake(process);
+            }
+        }
+        Ok(())
+    }
+
+    fn set_abortable(&mut self, condition: u16, value: u16) -> Done {
+        known(condition, self.state.shape.conditions)?;
+        if value > 1 {
+            return Err(7);
+        }
+        self.state.condition_mut(condition).abortable = value == 1;
         Ok(())
     }
 

@@ -92,6 +92,7 @@ fn set_flags(random: &mut Random, state: &mut State) {
             let armed = random.chance(75);
             let failed = random.chance(30);
             let record = state.record_mut(process);
+            record.abort = random.chance(30);
             record.failed = match queue {
                 Queue::Lock(_) => true,
                 Queue::Condition(_) => false,
@@ -126,5 +127,6 @@ fn set_monitors(random: &mut Random, state: &mut State) {
     }
     for condition in &mut state.conditions {
         condition.wakeup = condition.queue.is_empty() && random.chance(50);
+        condition.abortable = random.chance(50);
     }
 }

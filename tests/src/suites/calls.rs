@@ -1,4 +1,4 @@
-//! The nine calls on the library against the reference, the whole area and the whole answer
+//! The twelve calls on the library against the reference, the whole area and the whole answer
 //! after each call; histories against the ledger too, with due, nearest and the sheet after
 //! each call.
 
@@ -54,15 +54,16 @@ fn scattered_states(tally: &mut Tally, random: &mut Random) -> Outcome {
     Ok(())
 }
 
-/// Broadcasts and ticks on areas of all sizes, where many wait on few conditions or on many.
+/// Broadcasts, ticks and aborts on areas of all sizes, where many wait on few conditions or on many.
 fn crowds(tally: &mut Tally, random: &mut Random) -> Outcome {
     for _ in 0..600 {
         let shape = sample::wide_shape(random);
         let state = sample::state(random, shape);
         let mut lent = Guarded::new(&state.words());
-        for _ in 0..6 {
-            let call = match random.below(2) {
+        for _ in 0..10 {
+            let call = match random.below(4) {
                 0 => Call::Tick,
+                1 | 2 => Call::Abort(random.between(1, shape.processes)),
                 _ => Call::Broadcast(random.between(1, shape.conditions)),
             };
             compare(tally, &mut lent, &call)?;
@@ -78,11 +79,8 @@ fn with_number(state: &State, number: u16) -> Vec<Call> {
         .iter()
         .position(|one| one.holder == state.running);
     let lock = held.map_or(1, |place| place as u16 + 1);
-    let wait = |lock, condition| Call::Wait {
-        lock,
-        condition,
-        ticks: 5,
-    };
+    let other = if lock == 1 { 2 } else { 1 };
+    let wait = |lock, condition| Call::wait(lock, condition, 5);
     vec![
         Call::Enter(number),
         Call::Exit(number),
@@ -96,6 +94,11 @@ fn with_number(state: &State, number: u16) -> Vec<Call> {
         Call::requeue(0, 0, number),
         Call::requeue(1, 0, number),
         Call::SetPriority(number),
+        Call::Abort(number),
+        Call::set_abortable(number, 1),
+        Call::set_abortable(1, number),
+        Call::reenter(number, 1),
+        Call::reenter(other, number),
     ]
 }
 
@@ -126,7 +129,7 @@ fn boundaries(tally: &mut Tally, random: &mut Random) -> Outcome {
 }
 
 /// Each of 1,023 processes alone in ready, on the condition and with the lock: every number as
-/// that of who runs, of a holder, in a tail and as a next.
+/// that of who runs, of a holder, of who is called off, in a tail and as a next.
 fn every_number(tally: &mut Tally) -> Outcome {
     const MOST: u16 = 1_023;
     let start = Call::Start {
@@ -136,12 +139,9 @@ fn every_number(tally: &mut Tally) -> Outcome {
         parks: 1,
         priorities: vec![4; usize::from(MOST)],
     };
-    let wait = Call::Wait {
-        lock: 1,
-        condition: 1,
-        ticks: 0,
-    };
+    let wait = Call::wait(1, 1, 0);
     let parked = (1..=MOST).map(|process| Call::requeue(0, 1, process));
+    let parked = parked.chain([Call::set_abortable(1, 1)]);
     let turns = (1..=MOST).flat_map(|process| {
         [
             Call::requeue(1, 0, process),
@@ -149,6 +149,10 @@ fn every_number(tally: &mut Tally) -> Outcome {
             wait.clone(),
             Call::Naked(1),
             Call::Enter(1),
+            wait.clone(),
+            Call::Abort(process),
+            Call::reenter(1, 1),
+            Call::reenter(1, 1),
             Call::Exit(1),
             Call::requeue(0, 1, process),
         ]

@@ -1,5 +1,6 @@
 //! The reference on areas whose verdict or reading is known: sound states made without calls,
-//! the same with one clause broken, and the same with blind damage.
+//! the same with one clause broken, with an unnamed bit set, with a free bit flipped, and with
+//! blind damage.
 
 use super::{Outcome, Tally};
 use crate::damage::{self, BREAKS};
@@ -14,6 +15,7 @@ pub fn run(tally: &mut Tally, random: &mut Random) -> Outcome {
         let state = sample::state(random, shape);
         sound_state(tally, random, &state)?;
         one_clause(tally, random, &state, &mut broken)?;
+        one_bit(tally, random, &state)?;
         blind_damage(tally, random, &state)?;
         let wrong = damage::wrong_count(random);
         tally.holds(!reference::sound(&wrong), || format!("{wrong:x?}"))?;
@@ -63,6 +65,17 @@ fn one_clause(
         }
     }
     Ok(())
+}
+
+/// No area is sound with an unnamed bit. Abort and abortable are free everywhere.
+fn one_bit(tally: &mut Tally, random: &mut Random, state: &State) -> Outcome {
+    let mut worse = state.words();
+    damage::set_unnamed(random, &state.shape, &mut worse);
+    tally.holds(!reference::sound(&worse), || format!("{worse:x?}"))?;
+    let mut other = state.words();
+    damage::flip_free(random, &state.shape, &mut other);
+    tally.holds(other != state.words(), || format!("{other:x?}"))?;
+    tally.holds(reference::sound(&other), || format!("{other:x?}"))
 }
 
 /// Whatever is still sound after blind damage is the image of what is read from it.

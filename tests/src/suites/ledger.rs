@@ -167,7 +167,9 @@ impl Run {
 
     fn count(&mut self, call: &Call, answer: &Answer) {
         match *call {
-            Call::Enter(lock) if answer.mark == 1 => self.entries[usize::from(lock) - 1] += 1,
+            Call::Enter(lock) | Call::Reenter { lock, .. } if answer.mark == 1 => {
+                self.entries[usize::from(lock) - 1] += 1
+            }
             Call::Exit(lock) | Call::Wait { lock, .. } if answer.code == 0 => {
                 self.leavings[usize::from(lock) - 1] += 1
             }
@@ -234,6 +236,7 @@ fn agree(
             record.armed,
             record.failed,
             record.waiting,
+            record.abort,
         );
         let expected = (
             ledger.priority[at],
@@ -241,6 +244,7 @@ fn agree(
             ledger.armed[at],
             ledger.failed[at],
             ledger.waiting(process),
+            ledger.abort[at],
         );
         tally.same(&found, &expected, || {
             format!("process {process}, {}", place())
@@ -252,9 +256,11 @@ fn agree(
         tally.same(&found, &expected, || format!("lock {lock}, {}", place()))?;
     }
     for condition in 1..=state.shape.conditions {
-        let expected = ledger.wakeup[usize::from(condition)];
-        tally.same(&state.condition(condition).wakeup, &expected, || {
-            format!("wakeup of condition {condition}, {}", place())
+        let (one, at) = (state.condition(condition), usize::from(condition));
+        let found = (one.wakeup, one.abortable);
+        let expected = (ledger.wakeup[at], ledger.abortable[at]);
+        tally.same(&found, &expected, || {
+            format!("condition {condition}, {}", place())
         })?;
     }
     Ok(())

@@ -1,5 +1,6 @@
 //! The suites by theme, and how they compare.
 
+pub mod abort;
 pub mod ahead;
 pub mod calls;
 pub mod known;

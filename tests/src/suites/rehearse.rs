@@ -27,6 +27,7 @@ pub fn run(tally: &mut Tally, random: &mut Random) -> Outcome {
     compare(tally, include_bytes!("../../../crates/rehearse/stdin"))?;
     long_lines(tally)?;
     clock_end(tally)?;
+    wrong_alarms(tally)?;
     for _ in 0..60 {
         let script = script(random, 2_000);
         compare(tally, &script)?;
@@ -54,7 +55,8 @@ fn line_of(call: &Call) -> Vec<u8> {
         | Call::Notify(number)
         | Call::Broadcast(number)
         | Call::Naked(number)
-        | Call::SetPriority(number) => vec![*number],
+        | Call::SetPriority(number)
+        | Call::Abort(number) => vec![*number],
         Call::Wait {
             lock,
             condition,
@@ -65,6 +67,8 @@ fn line_of(call: &Call) -> Vec<u8> {
             destination,
             process,
         } => vec![*source, *destination, *process],
+        Call::SetAbortable { condition, value } => vec![*condition, *value],
+        Call::Reenter { lock, condition } => vec![*lock, *condition],
         Call::Tick => vec![],
     };
     let words = numbers.iter().map(|number| format!(" {number}"));
@@ -114,6 +118,9 @@ pub fn call_of(line: &[u8]) -> Option<Call> {
         }),
         (b"setpriority", &[priority]) => Some(Call::SetPriority(priority)),
         (b"tick", &[]) => Some(Call::Tick),
+        (b"abort", &[process]) => Some(Call::Abort(process)),
+        (b"setabortable", &[condition, value]) => Some(Call::set_abortable(condition, value)),
+        (b"reenter", &[lock, condition]) => Some(Call::reenter(lock, condition)),
         _ => None,
     }
 }
@@ -224,6 +231,55 @@ fn clock_end(tally: &mut Tally) -> Outcome {
         tally,
         format!("start 3 1 1 0 2 5 2\n{ticks}{waits}").as_bytes(),
     )
+}
+
+/// Lines that are nearly Abort, SetAbortable or Reenter: each prints ? and changes nothing, as the
+/// right line after each shows, which is refused or changes nothing itself.
+fn wrong_alarms(tally: &mut Tally) -> Outcome {
+    let wrong = [
+        "abort",
+        "abort ",
+        "abort 1 2",
+        "abort  1",
+        "abort -1",
+        "abort 65536",
+        "Abort 1",
+        "aborts 1",
+        "abor 1",
+        "setabortable",
+        "setabortable 1",
+        "setabortable 1 1 1",
+        "setabortable 1 65536",
+        "setabortable 1 x",
+        "set_abortable 1 1",
+        "setAbortable 1 1",
+        "setabort 1 1",
+        "reenter",
+        "reenter 1",
+        "reenter 1 1 1",
+        "reenter 1 1 ",
+        "re-enter 1 1",
+        "reentry 1 1",
+        "reente 1 1",
+    ];
+    let right = [
+        ("abort 0", "7 0 0 0 0 0\n"),
+        ("abort 4", "7 0 0 0 0 0\n"),
+        ("setabortable 1 2", "7 0 0 0 0 0\n"),
+        ("setabortable 2 1", "7 0 0 0 0 0\n"),
+        ("setabortable 01 000", "0 2 0 0 0 0\n"),
+        ("reenter 1 2", "7 0 0 0 0 0\n"),
+        ("reenter 1 1", "8 0 0 0 0 0\n"),
+    ];
+    let mut script = "start 3 1 1 0 2 5 2\nenter 1\n".to_string();
+    let mut answers = vec!["0 2 0 0 0 0\n".to_string(), "0 2 0 1 0 0\n".to_string()];
+    for (number, line) in wrong.into_iter().enumerate() {
+        let (then, answer) = right[number % right.len()];
+        script += &format!("{line}\n{then}\n");
+        answers.extend(["?\n".to_string(), answer.to_string()]);
+    }
+    play(tally, script.as_bytes(), &answers)?;
+    compare(tally, script.as_bytes())
 }
 
 /// Each answer comes before the next line is written, as at a terminal.

@@ -33,6 +33,8 @@ struct Met {
     at_zero: u64,
     /// Those that another call ended.
     woken: u64,
+    /// Those of them that an Abort ended.
+    called_off: u64,
     /// Ticks to clock 0 through which somebody slept who waits without ticks.
     slept_through: u64,
 }
@@ -54,6 +56,7 @@ impl Met {
             ("waits of 65,535 ticks", self.of_most, 20),
             ("waits that end at clock 0", self.at_zero, 200),
             ("waits that another call ends", self.woken, 1_000),
+            ("waits that an Abort ends", self.called_off, 500),
             ("sleep through clock 0", self.slept_through, 100),
         ];
         match counts.iter().find(|(_, count, least)| count < least) {
@@ -77,10 +80,11 @@ impl Sleeper {
     }
 }
 
-/// Whether a call can wake those who wait on a condition before their time.
-fn wakes(call: &Call, condition: u16) -> bool {
+/// Whether a call can wake this process, which waits on this condition, before its time.
+fn wakes(call: &Call, process: u16, condition: u16) -> bool {
     match *call {
         Call::Notify(number) | Call::Broadcast(number) | Call::Naked(number) => number == condition,
+        Call::Abort(number) => number == process,
         _ => false,
     }
 }
@@ -144,9 +148,10 @@ impl Run {
             if ticked && sleeper.is_due() {
                 tally.holds(ready.contains(&process), place)?;
                 met.note(clock, ticks);
-            } else if !waits && wakes(call, condition) {
+            } else if !waits && wakes(call, process, condition) {
                 tally.holds(ready.contains(&process), place)?;
                 met.woken += 1;
+                met.called_off += u64::from(matches!(call, Call::Abort(_)));
             } else {
                 tally.holds(waits, place)?;
                 met.slept_through += u64::from(ticked && ticks == 0 && clock == 0);
@@ -214,7 +219,8 @@ fn short_sleeps(tally: &mut Tally, random: &mut Random, met: &mut Met) -> Outcom
     Ok(())
 }
 
-/// Three wait 65,535 ticks on a condition where no call wakes anybody, and the others go on.
+/// Three wait 65,535 ticks on a condition where no call wakes anybody and which is never abortable,
+/// and the others go on, alarms among their calls.
 fn long_sleeps(tally: &mut Tally, random: &mut Random, met: &mut Met) -> Outcome {
     let shape = Shape {
         processes: 6,
@@ -240,7 +246,7 @@ fn long_sleeps(tally: &mut Tally, random: &mut Random, met: &mut Met) -> Outcome
         for _ in 0..65_536 {
             if random.chance(2) {
                 let call = history.next(random, &run.state()?);
-                if !wakes(&call, 1) {
+                if !wakes(&call, 0, 1) && call != Call::set_abortable(1, 1) {
                     run.call(tally, &call, met)?;
                 }
             }

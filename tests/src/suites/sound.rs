@@ -6,7 +6,7 @@ use crate::guarded::Guarded;
 use crate::history::{self, History};
 use crate::library;
 use crate::random::Random;
-use crate::reference::{self, Lock, Shape, State};
+use crate::reference::{self, Lock, Queue, Shape, State};
 use crate::sample;
 
 /// How often each verdict was given.
@@ -60,6 +60,7 @@ pub fn run(tally: &mut Tally, random: &mut Random) -> Outcome {
         some_damage(&mut check, random, &state, 2000)?;
     }
     every_flags_word(&mut check)?;
+    every_condition_word(&mut check)?;
     every_word(&mut check, random)?;
     every_ring(&mut check, random)?;
     scattered_states(&mut check, random)?;
@@ -140,13 +141,13 @@ fn reach(random: &mut Random, shape: Shape, calls: usize) -> State {
     reference::read(&area).expect("a history keeps the area sound")
 }
 
-/// 1 runs, 2 is ready, 3 is parked, 4 queues at the lock that 1 holds; the others wait: 5 unarmed,
-/// 6 armed with timer 0, 7 armed with another.
+/// 1 runs, 2 is ready, 3 is parked, 4 queues at the lock that 1 holds; the others wait on the first
+/// condition: 5 unarmed, 6 armed with timer 0, 7 armed with another. Nobody waits on the second.
 fn each_place() -> State {
     let shape = Shape {
         processes: 7,
         locks: 1,
-        conditions: 1,
+        conditions: 2,
         parks: 1,
     };
     let mut state = State::fresh(shape, &[4; 7]);
@@ -170,7 +171,19 @@ fn each_place() -> State {
 }
 
 /// The flags with which each of them may stand there.
-const RIGHT_FLAGS: [&[u16]; 7] = [&[0], &[0], &[0], &[0], &[2, 6], &[2, 6], &[6]];
+const RIGHT_FLAGS: [&[u16]; 7] = [
+    &[0, 1],
+    &[0, 1],
+    &[0, 1],
+    &[0, 1],
+    &[2, 3, 6, 7],
+    &[2, 3, 6, 7],
+    &[6, 7],
+];
+
+/// The words that each condition may have there: with each of the three as the tail, who are equals,
+/// abortable or not; and without a tail, abortable or not, with a wakeup or not.
+const RIGHT_CONDITIONS: [&[u16]; 2] = [&[40, 42, 48, 50, 56, 58], &[0, 1, 2, 3]];
 
 /// Every value of every flags word, each bit flipped among them, with the verdict written out.
 fn every_flags_word(check: &mut Check) -> Outcome {
@@ -186,6 +199,26 @@ fn every_flags_word(check: &mut Check) -> Outcome {
                 format!("flags {word:x} of process {process}")
             })?;
             check.lent(&mut lent, "one flags word replaced")?;
+        }
+        lent.slice_mut()[place] = kept;
+    }
+    Ok(())
+}
+
+/// Every value of every condition's word, with the verdict written out.
+fn every_condition_word(check: &mut Check) -> Outcome {
+    let state = each_place();
+    let mut lent = Guarded::new(&state.words());
+    for (condition, right) in (1..).zip(RIGHT_CONDITIONS) {
+        let place = state.shape.tail_at(Queue::Condition(condition));
+        let kept = lent.slice()[place];
+        for word in 0..=u16::MAX {
+            lent.slice_mut()[place] = word;
+            let found = reference::sound(lent.slice());
+            check.tally.same(&found, &right.contains(&word), || {
+                format!("word {word:x} of condition {condition}")
+            })?;
+            check.lent(&mut lent, "one condition's word replaced")?;
         }
         lent.slice_mut()[place] = kept;
     }
@@ -239,6 +272,13 @@ fn some_damage(check: &mut Check, random: &mut Random, state: &State, times: usi
         let mut area = words.clone();
         damage::blind(random, &state.shape, &mut area);
         check.area(&area, "blind damage")?;
+    }
+    for _ in 0..times / 4 {
+        let mut area = words.clone();
+        damage::flip_free(random, &state.shape, &mut area);
+        check.area(&area, "a free bit flipped")?;
+        damage::set_unnamed(random, &state.shape, &mut area);
+        check.area(&area, "an unnamed bit set")?;
     }
     for (name, change) in BREAKS {
         for _ in 0..times / 50 {

@@ -136,7 +136,12 @@ fn locks(tally: &mut Tally, perform: Perform) -> Outcome {
             condition: 1,
             ticks: 0,
         };
-        for call in [Call::Enter(lock), Call::Exit(lock), wait] {
+        for call in [
+            Call::Enter(lock),
+            Call::Exit(lock),
+            wait,
+            Call::reenter(lock, 1),
+        ] {
             row(tally, perform, &mut WORDS.to_vec(), &call, 7)?;
         }
     }
