@@ -415,7 +415,7 @@ fn unsound_areas(tally: &mut Tally, random: &mut Random) -> Outcome {
     for round in 0..15_000 {
         let shape = sample::small_shape(random);
         let mut words = damage::area(random, shape, round, 20);
-        if words.len() == shape.size() {
+        if words.len() == shape.size() && random.chance(30) {
             damage::set_unnamed(random, &shape, &mut words);
         }
         if reference::sound(&words) {
