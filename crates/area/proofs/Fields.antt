@@ -13,7 +13,7 @@ use lib.ListN.{length, getD, set}
 use Rattle.model.specs.declared.Shape.{Shape}
 use Rattle.model.specs.Queue.{inside, bit}
 use Rattle.model.specs.Field.{Field, some}
-use Rattle.model.specs.Field.Field.{clock, running, priority, armed, timer, failed, holder, wakeup}
+use Rattle.model.specs.Field.Field.{clock, running, priority, armed, timer, failed, abort, holder, wakeup, abortable}
 use Rattle.model.specs.Rules.{counted, readyOrPark}
 use Rattle.model.specs.Machine.{State, model}
 use Rattle.model.specs.Valid.{room}
@@ -84,12 +84,14 @@ room-span n k (priority p) = omega arith
 room-span n k (armed p) = omega arith
 room-span n k (timer p) = omega arith
 room-span n k (failed p) = omega arith
+room-span n k (abort p) = omega arith
 room-span n k (holder l) = go (inside (n .locks) l)
   where
     go : (b : Bool) → cond b (suc (n .processes)) 1 ≤ cond b 1024 1
     go true = omega (arith, counts-in n k .processes)
     go false = omega arith
 room-span n k (wakeup c) = omega arith
+room-span n k (abortable c) = omega arith
 
 module _ {n : Shape} {ws : List ℕ} {s : State model} (H : Holds n ws s) where
   -- a plain field

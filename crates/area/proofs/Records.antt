@@ -16,7 +16,7 @@ use Rattle.model.specs.declared.Shape.{Shape}
 use Rattle.model.specs.Queue.{Queue, inside, exists, member}
 use Rattle.model.specs.Queue.Queue.{ready, park, lock, condition}
 use Rattle.model.specs.Field.{some}
-use Rattle.model.specs.Field.Field.{priority, armed, timer, failed}
+use Rattle.model.specs.Field.Field.{priority, armed, timer, failed, abort}
 use Rattle.model.specs.Machine.{State, model}
 use Rattle.model.proofs.Tests.{inside-bounds}
 use Rattle.links.specs.Link as link
@@ -102,7 +102,7 @@ module _ (n : Shape) (ws : List ℕ) (t : Parts) (im : Image n ws t) where
   rings-said p h time =
       let f : getD (records n ws) (slot p + 1) 0 ≡ word n t (Flags p) = getD-drop (recordsAt n) ws (slot p + 1) 0 ∙ ap (λ i. getD ws i 0) (omega arith) ∙ im .words (Flags p) h in
       let e : getD (records n ws) (slot p + 2) 0 ≡ t (kept (timer p)) = getD-drop (recordsAt n) ws (slot p + 2) 0 ∙ ap (λ i. getD ws i 0) (omega arith) ∙ im .words (Timer p) h in
-      let a : getD (records n ws) (slot p + 1) 0 / 4 % 2 ≡ t (kept (armed p)) = omega (arith, im .spans (kept (armed p)) h, im .spans (waiting p) h) in
+      let a : getD (records n ws) (slot p + 1) 0 / 4 % 2 ≡ t (kept (armed p)) = omega (arith, im .spans (kept (armed p)) h, im .spans (waiting p) h, im .spans (kept (abort p)) h) in
       rw (a, e) (ap (λ (b : Bool). b && eqb (t (kept (timer p))) time) (one-some (t (kept (armed p))) (im .spans (kept (armed p)) h)))
 
   front-long : length (take (recordsAt n) ws) ≡ recordsAt n

@@ -13,7 +13,7 @@ use Rattle.model.specs.declared.Shape.{Shape}
 use Rattle.model.specs.Queue.{Queue-discrete}
 use Rattle.model.specs.Queue.Queue.{ready, park, lock, condition}
 use Rattle.model.specs.Field.{Field-discrete}
-use Rattle.model.specs.Field.Field.{clock, running, priority, armed, timer, failed, holder, wakeup}
+use Rattle.model.specs.Field.Field.{clock, running, priority, armed, timer, failed, abort, holder, wakeup, abortable}
 use Rattle.model.specs.Rules.{counted}
 use Rattle.model.proofs.Tests.{decided-case, passes, stops}
 use Rattle.area.specs.declared.places.Place.{Place}
@@ -54,10 +54,10 @@ word-ext n s t Running h = rw (h (kept running) refl)
 word-ext n s t (Tail ready) h = rw (h (tail ready) refl)
 word-ext n s t (Tail (park k)) h = rw (h (tail (park k)) refl)
 word-ext n s t (Tail (lock l)) h = rw (h (tail (lock l)) refl, h (locked l) refl)
-word-ext n s t (Tail (condition c)) h = rw (h (tail (condition c)) refl, h (kept (wakeup c)) refl)
+word-ext n s t (Tail (condition c)) h = rw (h (tail (condition c)) refl, h (kept (abortable c)) refl, h (kept (wakeup c)) refl)
 word-ext n s t (Holder l) h = rw (h (kept (holder l)) refl)
 word-ext n s t (Link p) h = rw (h (kept (priority p)) refl, h (next p) refl, h (kept (failed p)) refl)
-word-ext n s t (Flags p) h = rw (h (kept (armed p)) refl, h (waiting p) refl)
+word-ext n s t (Flags p) h = rw (h (kept (armed p)) refl, h (waiting p) refl, h (kept (abort p)) refl)
 word-ext n s t (Timer p) h = h (kept (timer p)) refl
 
 word-other : (n : Shape) (f : Part) (x : ℕ) (t : Parts) (a : Slot) → (home f ≡ a → ⊥) → word n (alter f x t) a ≡ word n t a
@@ -72,11 +72,13 @@ module _ (n : Shape) (t : Parts) (x : ℕ) where
   word-alter (kept clock) = rw (alter-here (kept clock) x t) (omega arith)
   word-alter (kept running) = rw (alter-here (kept running) x t) (omega arith)
   word-alter (kept (priority p)) = rw (alter-here (kept (priority p)) x t, beside (kept (priority p)) (kept (failed p)) (omega arith)) (omega arith)
-  word-alter (kept (armed p)) = rw (alter-here (kept (armed p)) x t) (omega arith)
+  word-alter (kept (armed p)) = rw (alter-here (kept (armed p)) x t, beside (kept (armed p)) (kept (abort p)) (omega arith)) (omega arith)
   word-alter (kept (timer p)) = rw (alter-here (kept (timer p)) x t) (omega arith)
   word-alter (kept (failed p)) = rw (alter-here (kept (failed p)) x t, beside (kept (failed p)) (kept (priority p)) (omega arith)) (omega arith)
+  word-alter (kept (abort p)) = rw (alter-here (kept (abort p)) x t, beside (kept (abort p)) (kept (armed p)) (omega arith)) (omega arith)
   word-alter (kept (holder l)) = rw (alter-here (kept (holder l)) x t) (omega arith)
-  word-alter (kept (wakeup c)) = rw (alter-here (kept (wakeup c)) x t) (omega arith)
+  word-alter (kept (wakeup c)) = rw (alter-here (kept (wakeup c)) x t, beside (kept (wakeup c)) (kept (abortable c)) (omega arith)) (omega arith)
+  word-alter (kept (abortable c)) = rw (alter-here (kept (abortable c)) x t, beside (kept (abortable c)) (kept (wakeup c)) (omega arith)) (omega arith)
   word-alter (tail ready) = rw (alter-here (tail ready) x t) (omega arith)
   word-alter (tail (park k)) = rw (alter-here (tail (park k)) x t) (omega arith)
   word-alter (tail (lock l)) = rw (alter-here (tail (lock l)) x t) (omega arith)
@@ -105,22 +107,25 @@ module _ (n : Shape) (ws : List ℕ) (t : Parts) (im : Image n ws t) where
   load (kept running) v = omega (arith, im .words Running v, im .spans (kept running) v)
   load (kept (priority p)) v =
       omega (arith, im .words (Link p) v, im .spans (kept (priority p)) v, im .spans (next p) v, im .spans (kept (failed p)) v)
-  load (kept (armed p)) v = omega (arith, im .words (Flags p) v, im .spans (kept (armed p)) v, im .spans (waiting p) v)
+  load (kept (armed p)) v = omega (arith, im .words (Flags p) v, im .spans (kept (armed p)) v, im .spans (waiting p) v, im .spans (kept (abort p)) v)
   load (kept (timer p)) v = omega (arith, im .words (Timer p) v, im .spans (kept (timer p)) v)
   load (kept (failed p)) v =
       omega (arith, im .words (Link p) v, im .spans (kept (priority p)) v, im .spans (next p) v, im .spans (kept (failed p)) v)
+  load (kept (abort p)) v = omega (arith, im .words (Flags p) v, im .spans (kept (armed p)) v, im .spans (waiting p) v, im .spans (kept (abort p)) v)
   load (kept (holder l)) v = omega (arith, im .words (Holder l) v, im .spans (kept (holder l)) v)
   load (kept (wakeup c)) v =
-      omega (arith, im .words (Tail (condition c)) v, im .spans (tail (condition c)) v, im .spans (kept (wakeup c)) v)
+      omega (arith, im .words (Tail (condition c)) v, im .spans (tail (condition c)) v, im .spans (kept (abortable c)) v, im .spans (kept (wakeup c)) v)
+  load (kept (abortable c)) v =
+      omega (arith, im .words (Tail (condition c)) v, im .spans (tail (condition c)) v, im .spans (kept (abortable c)) v, im .spans (kept (wakeup c)) v)
   load (tail ready) v = omega (arith, im .words (Tail ready) v, im .spans (tail ready) v)
   load (tail (park k)) v = omega (arith, im .words (Tail (park k)) v, im .spans (tail (park k)) v)
   load (tail (lock l)) v = omega (arith, im .words (Tail (lock l)) v, im .spans (tail (lock l)) v, im .spans (locked l) v)
   load (tail (condition c)) v =
-      omega (arith, im .words (Tail (condition c)) v, im .spans (tail (condition c)) v, im .spans (kept (wakeup c)) v)
+      omega (arith, im .words (Tail (condition c)) v, im .spans (tail (condition c)) v, im .spans (kept (abortable c)) v, im .spans (kept (wakeup c)) v)
   load (next p) v =
       omega (arith, im .words (Link p) v, im .spans (kept (priority p)) v, im .spans (next p) v, im .spans (kept (failed p)) v)
   load (locked l) v = omega (arith, im .words (Tail (lock l)) v, im .spans (tail (lock l)) v, im .spans (locked l) v)
-  load (waiting p) v = omega (arith, im .words (Flags p) v, im .spans (kept (armed p)) v, im .spans (waiting p) v)
+  load (waiting p) v = omega (arith, im .words (Flags p) v, im .spans (kept (armed p)) v, im .spans (waiting p) v, im .spans (kept (abort p)) v)
 
   pub parts-said : (f : Part) → has n (home f) ≡ true → partsOf n ws f ≡ t f
   parts-said f v = rw v (load f v)
@@ -179,10 +184,10 @@ word-small n t k sp Running v = omega (arith, sp (kept running) v)
 word-small n t k sp (Tail ready) v = omega (arith, sp (tail ready) v)
 word-small n t k sp (Tail (park x)) v = omega (arith, sp (tail (park x)) v)
 word-small n t k sp (Tail (lock l)) v = omega (arith, sp (tail (lock l)) v, sp (locked l) v)
-word-small n t k sp (Tail (condition c)) v = omega (arith, sp (tail (condition c)) v, sp (kept (wakeup c)) v)
+word-small n t k sp (Tail (condition c)) v = omega (arith, sp (tail (condition c)) v, sp (kept (abortable c)) v, sp (kept (wakeup c)) v)
 word-small n t k sp (Holder l) v = omega (arith, sp (kept (holder l)) v)
 word-small n t k sp (Link p) v = omega (arith, sp (kept (priority p)) v, sp (next p) v, sp (kept (failed p)) v)
-word-small n t k sp (Flags p) v = omega (arith, sp (kept (armed p)) v, sp (waiting p) v)
+word-small n t k sp (Flags p) v = omega (arith, sp (kept (armed p)) v, sp (waiting p) v, sp (kept (abort p)) v)
 word-small n t k sp (Timer p) v = sp (kept (timer p)) v
 
 -- a part has room in a word, and counts by the bit in which it ends
@@ -193,8 +198,10 @@ unit-fits (kept (priority p)) = (omega arith, (13, refl))
 unit-fits (kept (armed p)) = (omega arith, (2, refl))
 unit-fits (kept (timer p)) = (omega arith, (0, refl))
 unit-fits (kept (failed p)) = (omega arith, (2, refl))
+unit-fits (kept (abort p)) = (omega arith, (0, refl))
 unit-fits (kept (holder l)) = (omega arith, (3, refl))
 unit-fits (kept (wakeup c)) = (omega arith, (0, refl))
+unit-fits (kept (abortable c)) = (omega arith, (1, refl))
 unit-fits (tail q) = (omega arith, (3, refl))
 unit-fits (next p) = (omega arith, (3, refl))
 unit-fits (locked l) = (omega arith, (0, refl))

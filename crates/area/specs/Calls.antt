@@ -7,8 +7,9 @@ use lib.Dec.{eqb}
 use Rattle.model.specs.declared.Shape.{Shape}
 use Rattle.model.specs.declared.Call.{Call}
 use Rattle.model.specs.declared.Answer.{Answer}
-use Rattle.model.specs.Queue.{Note, outside}
+use Rattle.model.specs.Queue.{Note, outside, toReady}
 use Rattle.model.specs.Field.{Fields, priorities}
+use Rattle.model.specs.Rules.{calm}
 use Rattle.model.specs.Machine.{State, model, moves, step}
 use Rattle.model.specs.Valid.{Valid}
 use Rattle.area.specs.Holds.{Holds, Gives}
@@ -42,3 +43,7 @@ pub record CallingTwo (running n i m j k : ℕ) : Type 0 where
 -- the state with other fields, and moves made one after the other by the priorities that it then has
 abbrev pub changed : Fields → List Note → State model → State model
 changed f ms s = record { fields = f; queues = moves model (priorities f) (s .queues) ms }
+
+-- the state after some have woken, one after the other
+abbrev pub woken : List ℕ → State model → State model
+woken xs s = changed (calm xs (s .fields)) (toReady xs) s

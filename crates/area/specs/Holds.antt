@@ -9,7 +9,7 @@ use Rattle.model.specs.declared.Answer.{Answer}
 use Rattle.model.specs.Queue.{Queue, bit, inside, exists, member, move, isCondition}
 use Rattle.model.specs.Queue.Queue.{ready}
 use Rattle.model.specs.Field.{Field, put, priorities}
-use Rattle.model.specs.Field.Field.{clock, running, priority, armed, timer, failed, holder, wakeup}
+use Rattle.model.specs.Field.Field.{clock, running, priority, armed, timer, failed, abort, holder, wakeup, abortable}
 use Rattle.model.specs.Machine.{State, model, dispatch}
 use Rattle.model.specs.Valid.{room, Placed}
 use Rattle.area.specs.declared.places.Place.{Place}
@@ -55,8 +55,10 @@ plain (priority p) = false
 plain (armed p) = true
 plain (timer p) = true
 plain (failed p) = true
+plain (abort p) = true
 plain (holder l) = false
 plain (wakeup c) = true
+plain (abortable c) = true
 
 -- a plain field lies at this place, and the value is in its range
 pub record Takes (n : Shape) (f : Field) (p : Place) (v : ℕ) : Type 0 where

@@ -10,7 +10,7 @@ use Rattle.model.specs.declared.Shape.{Shape}
 use Rattle.model.specs.Queue.{Queue, Queue-discrete, inside, exists, changed}
 use Rattle.model.specs.Queue.Queue.{ready, park, lock, condition}
 use Rattle.model.specs.Field.{Field, Field-discrete}
-use Rattle.model.specs.Field.Field.{clock, running, priority, armed, timer, failed, holder, wakeup}
+use Rattle.model.specs.Field.Field.{clock, running, priority, armed, timer, failed, abort, holder, wakeup, abortable}
 use Rattle.model.specs.Rules.{counted}
 use Rattle.area.specs.declared.places.Place.{Place}
 
@@ -64,10 +64,10 @@ word n t Running = t (kept running) * 8
 word n t (Tail ready) = t (tail ready) * 8
 word n t (Tail (park k)) = t (tail (park k)) * 8
 word n t (Tail (lock l)) = t (tail (lock l)) * 8 + t (locked l)
-word n t (Tail (condition c)) = t (tail (condition c)) * 8 + t (kept (wakeup c))
+word n t (Tail (condition c)) = t (tail (condition c)) * 8 + t (kept (abortable c)) * 2 + t (kept (wakeup c))
 word n t (Holder l) = t (kept (holder l)) * 8
 word n t (Link p) = t (kept (priority p)) * 8192 + t (next p) * 8 + t (kept (failed p)) * 4
-word n t (Flags p) = t (kept (armed p)) * 4 + t (waiting p) * 2
+word n t (Flags p) = t (kept (armed p)) * 4 + t (waiting p) * 2 + t (kept (abort p))
 word n t (Timer p) = t (kept (timer p))
 
 -- ---- addresses
@@ -124,8 +124,10 @@ home (kept (priority p)) = Link p
 home (kept (armed p)) = Flags p
 home (kept (timer p)) = Timer p
 home (kept (failed p)) = Link p
+home (kept (abort p)) = Flags p
 home (kept (holder l)) = Holder l
 home (kept (wakeup c)) = Tail (condition c)
+home (kept (abortable c)) = Tail (condition c)
 home (tail q) = Tail q
 home (next p) = Link p
 home (locked l) = Tail (lock l)
@@ -139,8 +141,10 @@ span (kept (priority p)) = 8
 span (kept (armed p)) = 2
 span (kept (timer p)) = 65536
 span (kept (failed p)) = 2
+span (kept (abort p)) = 2
 span (kept (holder l)) = 1024
 span (kept (wakeup c)) = 2
+span (kept (abortable c)) = 2
 span (tail q) = 1024
 span (next p) = 1024
 span (locked l) = 2
@@ -154,8 +158,10 @@ unit (kept (priority p)) = 8192
 unit (kept (armed p)) = 4
 unit (kept (timer p)) = 1
 unit (kept (failed p)) = 4
+unit (kept (abort p)) = 1
 unit (kept (holder l)) = 8
 unit (kept (wakeup c)) = 1
+unit (kept (abortable c)) = 2
 unit (tail q) = 8
 unit (next p) = 8
 unit (locked l) = 1

@@ -35,9 +35,13 @@ pub const FAILED: u16 = 4;
 
 pub const WAITING: u16 = 2;
 
+pub const ABORT: u16 = 1;
+
 pub const LOCKED: u16 = 1;
 
 pub const WAKEUP: u16 = 1;
+
+pub const ABORTABLE: u16 = 2;
 
 // The bits of a link below failed, which have no name.
 pub const UNNAMED: u16 = 3;

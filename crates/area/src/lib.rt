@@ -16,6 +16,7 @@ ghost use Rattle.model.specs.Queue.Queue.{ready, lock, condition};
 ghost use Rattle.model.specs.Field.{Field, some};
 ghost use Rattle.model.specs.Field.Field.{running, priority, armed, timer, holder};
 ghost use Rattle.model.specs.Rules.{readyOrPark};
+ghost use Rattle.model.specs.Machine as machine;
 ghost use Rattle.model.specs.Machine.{State, model};
 ghost use Rattle.area.specs.Layout.{Part, Parts, span, at, Lies, Flag, locksAt, conditionsAt, recordsAt, size, alter, Image, Stored};
 ghost use Rattle.area.specs.Layout.Part.{kept, waiting};
@@ -153,6 +154,16 @@ pub fn get(area: &[u16], place: Place) -> u16
 {
     let at = place.at;
     part_of(area[at], place.unit, place.span)
+}
+
+// Whether p waits.
+pub fn waits(area: &[u16], shape: Shape, p: u16) -> bool
+    requires { ⌜ Held shape (now area) ⌝ }
+    requires { ⌜ inside (shape .processes) p ≡ true ⌝ }
+    ensures { λ r. ⌜ ((s : State model) → Holds shape (now (area .entry)) s → r ≡ machine.waiting shape (s .queues) p) ⌝ }
+{
+    let at = record_at(shape, p) + links::FLAGS;
+    part_of(area[at], layout::WAITING, layout::BIT) != 0
 }
 
 // The part at this place takes the value.

@@ -62,6 +62,17 @@ pub fn timer(shape: Shape, p: u16) -> Place
     }
 }
 
+pub fn abort(shape: Shape, p: u16) -> Place
+    requires { ⌜ inside (shape .processes) p ≡ true ⌝ }
+    ensures { λ r. ⌜ Lies shape (kept (Field.abort p)) r ⌝ }
+{
+    Place {
+        at: record_at(shape, p) + links::FLAGS,
+        unit: layout::ABORT,
+        span: layout::BIT,
+    }
+}
+
 pub fn locked(shape: Shape, l: u16) -> Place
     requires { ⌜ inside (shape .locks) l ≡ true ⌝ }
     ensures { λ r. ⌜ Lies shape (Part.locked l) r ⌝ }
@@ -91,6 +102,17 @@ pub fn wakeup(shape: Shape, c: u16) -> Place
     Place {
         at: condition_at(shape, c),
         unit: layout::WAKEUP,
+        span: layout::BIT,
+    }
+}
+
+pub fn abortable(shape: Shape, c: u16) -> Place
+    requires { ⌜ inside (shape .conditions) c ≡ true ⌝ }
+    ensures { λ r. ⌜ Lies shape (kept (Field.abortable c)) r ⌝ }
+{
+    Place {
+        at: condition_at(shape, c),
+        unit: layout::ABORTABLE,
         span: layout::BIT,
     }
 }

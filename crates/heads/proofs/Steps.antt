@@ -1,19 +1,19 @@
 -- The tests step by step: what each way out of the code says of the functions of specs/, on values. Assumes nothing.
-use Prim.Native.Nat.{ℕ, _+_, _*_, _/_, _%_, _≤_, _<_}
+use Prim.Native.Nat.{ℕ, _+_, _-_, _*_, _/_, _%_, _≤_, _<_}
 use native.Mathlib.Decide.{ℕ-discrete}
 use native.Mathlib.Omega.{arith}
-use mathlib.Core.Path.{_≡_, refl, sym, _∙_}
-use mathlib.Core.Bool.{true, false, _&&_, and-false}
+use mathlib.Core.Path.{_≡_, refl, sym, ap, _∙_}
+use mathlib.Core.Bool.{true, false, and-false}
 use mathlib.Core.List.{List}
 use lib.Bits.{bitAnd, and-high}
 use lib.Dec.{eqb}
 use lib.ListN.{getD}
-use borrow.Author.Tests.{le-leb, lt-leb, eq-eqb, ne-eqb}
+use borrow.Author.Tests.{le-leb, lt-leb, eq-eqb, ne-eqb, eqb-true}
 use Rattle.model.specs.declared.Shape.{Shape}
 use Rattle.links.proofs.Links.{low-bits}
 use Rattle.area.specs.Reading.{shapeOf}
 use Rattle.heads.specs.First.{Led}
-use Rattle.heads.specs.Heads.{heading, headAt, holderIn}
+use Rattle.heads.specs.Heads.{bare, isVacant, heading, headAt, holderIn}
 
 -- ---- the counts
 
@@ -65,27 +65,52 @@ module _ (P k w v : ℕ) where
         unfolding heading
         head-held n = rw (low-bits w, le-leb (w / 8) P a, le-leb (v / 8) P b, clear, ne-eqb v 0 n)
 
-        pub head-wakeup : v ≡ 0 → k ≡ 2 → w ≡ 1 → true ≡ heading P k w v
+        pub head-plain : v ≡ 0 → (k ≡ 2 → ⊥) → eqb (bitAnd w 7) 0 ≡ heading P k w v
         unfolding heading
-        head-wakeup d e h = rw (le-leb (w / 8) P a, le-leb (v / 8) P b, clear, eq-eqb v 0 d, eq-eqb k 2 e, eq-eqb w 1 h)
+        head-plain d n = rw (low-bits w, le-leb (w / 8) P a, le-leb (v / 8) P b, clear, eq-eqb v 0 d, ne-eqb k 2 n)
 
-        pub head-plain : v ≡ 0 → (k ≡ 2 → w ≡ 1 → ⊥) → eqb (bitAnd w 7) 0 ≡ heading P k w v
-        unfolding heading
-        head-plain d n = rw (low-bits w, le-leb (w / 8) P a, le-leb (v / 8) P b, clear, eq-eqb v 0 d, both) refl
-          where
-            both : eqb k 2 && eqb w 1 ≡ false
-            both = elim (ℕ-discrete k 2) [ yes e ↦ rw (ne-eqb w 1 (n e), and-false) | no e ↦ rw (ne-eqb k 2 e) ]
+        -- the word of a condition, u of it but for abortable
+        module _ {u : ℕ} (d : v ≡ 0) (e : k ≡ 2) (is-bare : u ≡ w - bitAnd w 2) where
+          others : u ≡ bare w
+          others = is-bare ∙ ap (λ z. w - z) (and-high w 1 1)
 
-  -- a queue whose word is 0: it is empty, and nobody holds the lock
-  pub head-empty : w ≡ 0 → v ≡ 0 → true ≡ heading P k w v
-  head-empty z d =
-      let lw : bitAnd w 7 ≡ 0 = low-bits w ∙ omega arith in
-      let lv : bitAnd v 7 ≡ 0 = low-bits v ∙ omega arith in
-      sym (eq-eqb (bitAnd w 7) 0 lw) ∙ head-plain (omega arith) (omega arith) lv d (λ e h. omega arith)
+          pub head-wakeup : u ≡ 1 → true ≡ heading P k w v
+          unfolding heading
+          head-wakeup h = rw (le-leb (w / 8) P a, le-leb (v / 8) P b, clear, eq-eqb v 0 d, eq-eqb k 2 e, eq-eqb (bare w) 1 (sym others ∙ h))
 
-  pub head-empty-held : w ≡ 0 → (v ≡ 0 → ⊥) → false ≡ heading P k w v
-  unfolding heading
-  head-empty-held z n = rw (ne-eqb v 0 n, ne-eqb (w % 8) 1 (omega arith), and-false, and-false, and-false)
+          pub head-bare : (u ≡ 1 → ⊥) → eqb (bitAnd u 7) 0 ≡ heading P k w v
+          unfolding heading
+          head-bare n = rw (low-bits u, others, le-leb (w / 8) P a, le-leb (v / 8) P b, clear, eq-eqb v 0 d, eq-eqb k 2 e, ne-eqb (bare w) 1 (λ z. n (others ∙ z)))
+
+  -- a vacant queue: nobody holds the lock
+  module _ (z : isVacant k w ≡ true) where
+    pub vacant-is : (w / 8 ≡ 0) × (w % 2 ≡ 0) × ((k ≡ 2 → ⊥) → w ≡ 0) × (k ≡ 2 → bare w ≡ 0)
+    unfolding isVacant
+    vacant-is = elim (ℕ-discrete k 2) [
+      | yes e ↦ let b = eqb-true (bare w) 0 (rw (eq-eqb k 2 e) at z) in (omega arith, omega arith, λ n. absurd (n e), λ y. b)
+      | no n ↦ let b = eqb-true w 0 (rw (ne-eqb k 2 n) at z) in (omega arith, omega arith, λ y. b, λ y. absurd (n y))
+    ]
+
+    pub head-empty : v ≡ 0 → true ≡ heading P k w v
+    unfolding heading
+    head-empty d = rw (d, le-leb (w / 8) P (let a = vacant-is .0 in omega arith), le-leb 0 P (omega arith)) (elim (ℕ-discrete k 2) [
+      | yes e ↦ rw (eq-eqb k 2 e, vacant-is .3 e)
+      | no n ↦ rw (ne-eqb k 2 n, vacant-is .2 n)
+    ])
+
+    pub head-empty-held : (v ≡ 0 → ⊥) → false ≡ heading P k w v
+    unfolding heading
+    head-empty-held n = rw (ne-eqb v 0 n, ne-eqb (w % 8) 1 (λ y. let a = vacant-is .1 in omega arith), and-false, and-false, and-false)
+
+-- what the test of a vacant queue finds
+module _ (k w : ℕ) where
+  pub vacant-condition : k ≡ 2 → eqb (w - bitAnd w 2) 0 ≡ isVacant k w
+  unfolding isVacant
+  vacant-condition e = rw (eq-eqb k 2 e, and-high w 1 1)
+
+  pub vacant-other : (k ≡ 2 → ⊥) → eqb w 0 ≡ isVacant k w
+  unfolding isVacant
+  vacant-other n = rw (ne-eqb k 2 n)
 
 -- ---- where a queue's words stand
 

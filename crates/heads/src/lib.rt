@@ -3,7 +3,7 @@ use area::layout;
 ghost use mathlib.Core.Path.{_≡_};
 ghost use Prim.Native.Nat.{_+_, _*_, _≤_, _<_};
 ghost use lib.ListN.{length};
-ghost use Rattle.heads.specs.Heads.{heading, headAt, holderIn};
+ghost use Rattle.heads.specs.Heads.{isVacant, heading, headAt, holderIn};
 ghost use Rattle.heads.specs.First.{Decides, Counted, Led, Runs};
 
 // The kinds of queues: ready and the parks, the locks, the conditions.
@@ -68,6 +68,16 @@ pub fn runs(area: &[u16], records: &[u16]) -> bool
 
 // ---- the words of a queue
 
+// Whether a queue's word says that it is empty and has no bit set; a condition's may have abortable.
+pub fn vacant(kind: u16, w: u16) -> bool
+    ensures { λ r. ⌜ r ≡ isVacant kind w ⌝ }
+{
+    if kind == CONDITION {
+        return w - (w & layout::ABORTABLE) == 0;
+    }
+    w == 0
+}
+
 // Whether the words of a queue of this kind are in order: w has the tail, v the holder, 0 where there is none.
 pub fn in_order(processes: u16, kind: u16, w: u16, v: u16) -> bool
     ensures { λ r. ⌜ r ≡ heading processes kind w v ⌝ }
@@ -86,10 +96,12 @@ pub fn in_order(processes: u16, kind: u16, w: u16, v: u16) -> bool
         return w & links::LOW == layout::LOCKED;
     }
     if kind == CONDITION {
-        if w == layout::WAKEUP {
+        // abortable may be set or not
+        let bare = w - (w & layout::ABORTABLE);
+        if bare == layout::WAKEUP {
             return true;
         }
-        return w & links::LOW == 0;
+        return bare & links::LOW == 0;
     }
     w & links::LOW == 0
 }

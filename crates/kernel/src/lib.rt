@@ -7,7 +7,7 @@ use model::Ticks;
 ghost use Prim.Native.Nat.{ℕ};
 ghost use mathlib.Core.List.{List};
 ghost use Rattle.model.specs.declared.Call.{Call};
-ghost use Rattle.model.specs.declared.Call.the-variants.{Enter, Exit, Wait, Notify, Broadcast, Naked, Requeue, SetPriority, Tick};
+ghost use Rattle.model.specs.declared.Call.the-variants.{Enter, Exit, Wait, Notify, Broadcast, Naked, Requeue, SetPriority, Tick, Abort, SetAbortable, Reenter};
 ghost use Rattle.model.specs.Machine.{fieldsOf};
 ghost use Rattle.monitor.specs.Calls.{Performs};
 ghost use Rattle.wire.specs.Wire.{Carries};
@@ -45,7 +45,7 @@ pub extern "C" fn kernel_sound(area: &[u16]) -> u64
     0
 }
 
-// ---- the nine calls
+// ---- the twelve calls
 
 // A call's answer as one number, out of which it comes back.
 fn cross(a: Answer) -> u64
@@ -121,6 +121,27 @@ pub extern "C" fn kernel_tick(area: &mut [u16]) -> u64
     ensures { λ r. ⌜ Crosses Tick (now (area .entry)) (now (area .exit)) r ⌝ }
 {
     cross(monitor::tick(area))
+}
+
+#[no_mangle]
+pub extern "C" fn kernel_abort(area: &mut [u16], process: u16) -> u64
+    ensures { λ r. ⌜ Crosses (Abort (record { 0 = process })) (now (area .entry)) (now (area .exit)) r ⌝ }
+{
+    cross(monitor::abort(area, Process(process)))
+}
+
+#[no_mangle]
+pub extern "C" fn kernel_set_abortable(area: &mut [u16], condition: u16, value: u16) -> u64
+    ensures { λ r. ⌜ Crosses (SetAbortable condition value) (now (area .entry)) (now (area .exit)) r ⌝ }
+{
+    cross(monitor::set_abortable(area, condition, value))
+}
+
+#[no_mangle]
+pub extern "C" fn kernel_reenter(area: &mut [u16], lock: u16, condition: u16) -> u64
+    ensures { λ r. ⌜ Crosses (Reenter lock condition) (now (area .entry)) (now (area .exit)) r ⌝ }
+{
+    cross(monitor::reenter(area, lock, condition))
 }
 
 // ---- reads

@@ -1,2 +1,2 @@
 pub mod Locking
-pub mod Waiting
+pub mod Reentry

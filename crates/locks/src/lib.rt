@@ -1,4 +1,4 @@
-// Monitor locks, on an area that holds a valid state: Enter and Exit here, Wait in waits. Assumes nothing.
+// Monitor locks, on an area that holds a valid state: Enter and Exit here, Reenter in again. Assumes nothing.
 use area::places;
 use model::Answer;
 use model::Shape;
@@ -19,10 +19,10 @@ ghost use Rattle.model.specs.Valid.{Valid};
 ghost use Rattle.area.specs.Holds.{Holds, Held, Becomes};
 ghost use Rattle.area.specs.Calls.{Stands, Does, changed};
 
-pub mod waits;
+pub mod again;
 
 // Unlocks, and the first of the lock's queue, if it has one, moves to ready. The answer is how many moved.
-fn release(area: &mut [u16], shape: Shape, lock: u16) -> u16
+pub fn release(area: &mut [u16], shape: Shape, lock: u16) -> u16
     requires { ⌜ Held shape (now area) ⌝ }
     requires { ⌜ inside (shape .locks) lock ≡ true ⌝ }
     ensures { λ r. ⌜ ((s : State model) → Holds shape (now (area .entry)) s → (r ≡ length (firstOnly (s .queues (Queue.lock lock)))) × Becomes shape (now (area .entry)) (now (area .exit)) (changed (put (holder lock) 0 (s .fields)) (released (s .queues) lock) s)) ⌝ }

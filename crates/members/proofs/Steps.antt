@@ -3,10 +3,10 @@ use Prim.Native.Nat.{ℕ, zero, suc, _+_, _-_, _*_, _/_, _%_, _≤_, _<_}
 use native.Mathlib.Decide.{ℕ-discrete, decLt}
 use native.Mathlib.Omega.{arith}
 use mathlib.Core.Path.{_≡_, refl}
-use mathlib.Core.Bool.{true, false, not, or-true, or-false, and-false}
+use mathlib.Core.Bool.{Bool, true, false, not, _&&_, or-false, and-true, and-false}
 use mathlib.Core.List.{List, _∷_}
 use mathlib.Core.Option.{none, some}
-use lib.Bits.{bitAnd, bitOr, and-mask, or-add-and}
+use lib.Bits.{bitAnd, bitOr, and-mask, and-high, and-block, or-add-and}
 use lib.Dec.{eqb, leb}
 use lib.ListN.{length}
 use borrow.Author.Tests.{lt-ltb, le-ltb, le-leb, lt-leb, eq-eqb, ne-eqb}
@@ -14,7 +14,7 @@ use Rattle.model.specs.Queue.{inside}
 use Rattle.model.proofs.Tests.{and-split, inside-bounds}
 use Rattle.links.specs.Link.{next, priority}
 use Rattle.links.proofs.Links.{low-bits}
-use Rattle.members.specs.Walk.{isEligible, isFresh, isAsleep, fitting, fitsIn, walked, ringed}
+use Rattle.members.specs.Walk.{isEligible, isFresh, isAsleep, isIdle, fitting, fitsIn, walked, ringed}
 
 -- ---- whether a process is eligible
 
@@ -37,45 +37,62 @@ module _ (P o p : ℕ) where
 
 -- ---- whether a record fits
 
-module _ (f t : ℕ) (small : f < 65536) where
-  pub asleep-alone : t * 65536 + f ≡ 2 → true ≡ isAsleep f t
-  unfolding isAsleep
-  asleep-alone e = rw (eq-eqb f 2 (omega arith), eq-eqb t 0 (omega arith), or-true)
+-- the flags but for abort, above the low bits of a link
+pub flagged-is : (w f : ℕ) → w < 65536 → f < 65536 → bitAnd (f * 65536 + w) 4294836231 ≡ f / 2 * 131072 + w % 8
+flagged-is w f a b =
+    let h : bitAnd f 65534 ≡ f / 2 % 32768 * 2 = and-high f 15 1 in
+    let l = low-bits w in
+    let e : bitAnd (f * 65536 + w) 4294836231 ≡ bitAnd f 65534 * 65536 + bitAnd w 7 = and-block 16 f 65534 w 7 a (omega arith) in
+    omega arith
 
-  pub asleep-armed : (t * 65536 + f ≡ 2 → ⊥) → eqb f 6 ≡ isAsleep f t
+-- of a record in a condition, b being that number
+module _ (w f t : ℕ) {b : ℕ} (e : b ≡ f / 2 * 131072 + w % 8) where
+  pub asleep-alone : b ≡ 131072 → eqb t 0 ≡ isAsleep f t && eqb (w % 8) 0
   unfolding isAsleep
-  asleep-armed n = elim (ℕ-discrete f 2) [
-    | yes e ↦ rw (eq-eqb f 2 e, ne-eqb t 0 (λ z. n (omega arith)), or-false)
-    | no d ↦ rw (ne-eqb f 2 d, or-false)
+  asleep-alone z =
+      let k : f / 2 ≡ 1 = omega arith in
+      rw (eq-eqb (w % 8) 0 (omega arith), and-true, eq-eqb (f / 2) 1 k, ne-eqb (f / 2) 3 (λ y. omega arith))
+
+  pub asleep-armed : (b ≡ 131072 → ⊥) → eqb b 393216 ≡ isAsleep f t && eqb (w % 8) 0
+  unfolding isAsleep
+  asleep-armed n = elim (ℕ-discrete (w % 8) 0) [
+    | no l ↦ rw (ne-eqb (w % 8) 0 l, and-false, ne-eqb b 393216 (λ z. l (omega arith)))
+    | yes l ↦ rw (eq-eqb (w % 8) 0 l, and-true, ne-eqb (f / 2) 1 (λ z. n (omega arith)), or-false) (elim (ℕ-discrete (f / 2) 3) [
+      | yes k ↦ rw (eq-eqb (f / 2) 3 k, eq-eqb b 393216 (omega arith))
+      | no k ↦ rw (ne-eqb (f / 2) 3 k, ne-eqb b 393216 (λ z. k (omega arith)))
+    ])
   ]
+
+-- of flags and a timer elsewhere, as one number
+pub idle-by : (f t : ℕ) → f < 65536 → leb (t * 65536 + f) 1 ≡ isIdle f t
+unfolding isIdle
+idle-by f t small = elim (decLt 1 (t * 65536 + f)) [
+  | no n ↦ rw (le-leb (t * 65536 + f) 1 (omega arith), eq-eqb (f / 2) 0 (omega arith), eq-eqb t 0 (omega arith))
+  | yes l ↦ rw (lt-leb (t * 65536 + f) 1 l) (elim (ℕ-discrete t 0) [
+    | yes o ↦ rw (ne-eqb (f / 2) 0 (λ z. omega arith))
+    | no o ↦ rw (ne-eqb t 0 o, and-false)
+  ])
+]
 
 module _ (k w f t : ℕ) where
   unnamed : bitAnd w 3 ≡ w % 4
   unnamed = and-mask w 2
 
-  pub fit-awake : k ≡ 2 → isAsleep f t ≡ false → false ≡ fitting k w f t
+  pub fit-waits : {b : Bool} → k ≡ 2 → b ≡ isAsleep f t && eqb (w % 8) 0 → b ≡ fitting k w f t
   unfolding fitting
-  fit-awake e d = rw (eq-eqb k 2 e, d)
+  fit-waits e d = rw (eq-eqb k 2 e) d
 
-  pub fit-waits : k ≡ 2 → isAsleep f t ≡ true → eqb (bitAnd w 7) 0 ≡ fitting k w f t
+  pub fit-busy : (k ≡ 2 → ⊥) → isIdle f t ≡ false → false ≡ fitting k w f t
   unfolding fitting
-  fit-waits e d = rw (low-bits w, eq-eqb k 2 e, d)
+  fit-busy e d = rw (ne-eqb k 2 e, d)
 
-  pub fit-flagged : (k ≡ 2 → ⊥) → (f ≡ 0 → ⊥) → false ≡ fitting k w f t
+  pub fit-blocked : (k ≡ 2 → ⊥) → isIdle f t ≡ true → k ≡ 1 → eqb (bitAnd w 7) 4 ≡ fitting k w f t
   unfolding fitting
-  fit-flagged e n = rw (ne-eqb k 2 e, ne-eqb f 0 n)
+  fit-blocked e d l = rw (low-bits w, ne-eqb k 2 e, d, eq-eqb k 1 l)
 
-  pub fit-timed : (k ≡ 2 → ⊥) → f ≡ 0 → (t ≡ 0 → ⊥) → false ≡ fitting k w f t
+  pub fit-plain : (k ≡ 2 → ⊥) → isIdle f t ≡ true → (k ≡ 1 → ⊥) → eqb (bitAnd w 3) 0 ≡ fitting k w f t
   unfolding fitting
-  fit-timed e d n = rw (ne-eqb k 2 e, eq-eqb f 0 d, ne-eqb t 0 n)
-
-  pub fit-blocked : (k ≡ 2 → ⊥) → f ≡ 0 → t ≡ 0 → k ≡ 1 → eqb (bitAnd w 7) 4 ≡ fitting k w f t
-  unfolding fitting
-  fit-blocked e d g l = rw (low-bits w, ne-eqb k 2 e, eq-eqb f 0 d, eq-eqb t 0 g, eq-eqb k 1 l)
-
-  pub fit-plain : (k ≡ 2 → ⊥) → f ≡ 0 → t ≡ 0 → (k ≡ 1 → ⊥) → eqb (bitAnd w 3) 0 ≡ fitting k w f t
-  unfolding fitting
-  fit-plain e d g l = rw (unnamed, ne-eqb k 2 e, eq-eqb f 0 d, eq-eqb t 0 g, ne-eqb k 1 l)
+  fit-plain e d l = rw (unnamed, ne-eqb k 2 e, d, ne-eqb k 1 l)
 
 -- with all bits below its priority set, a link is the highest of that priority
 pub falls-by : (a w : ℕ) → leb w (bitOr a 8191) ≡ leb (w / 8192) (a / 8192)

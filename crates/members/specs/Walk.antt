@@ -19,13 +19,17 @@ isEligible P o p = inside P p && not (eqb p o)
 unfoldable pub isFresh : ℕ → ℕ → ℕ → List ℕ → Bool
 isFresh P o p js = isEligible P o p && not (member p js)
 
--- the flags f and the timer t of a process in a condition: waiting and armed, or waiting alone and no timer
+-- the flags f, whatever abort, their lowest bit, and the timer t of a process in a condition: waiting and armed, or waiting alone and no timer
 unfoldable pub isAsleep : ℕ → ℕ → Bool
-isAsleep f t = eqb f 6 || (eqb f 2 && eqb t 0)
+isAsleep f t = eqb (f / 2) 3 || (eqb (f / 2) 1 && eqb t 0)
+
+-- of a process in any other queue: neither, and no timer
+unfoldable pub isIdle : ℕ → ℕ → Bool
+isIdle f t = eqb (f / 2) 0 && eqb t 0
 
 -- a record fits a queue of kind k: its link w, its flags f, its timer t
 unfoldable pub fitting : ℕ → ℕ → ℕ → ℕ → Bool
-fitting k w f t = cond (eqb k 2) (isAsleep f t && eqb (w % 8) 0) (eqb f 0 && (eqb t 0 && cond (eqb k 1) (eqb (w % 8) 4) (eqb (w % 4) 0)))
+fitting k w f t = cond (eqb k 2) (isAsleep f t && eqb (w % 8) 0) (isIdle f t && cond (eqb k 1) (eqb (w % 8) 4) (eqb (w % 4) 0))
 
 -- p's record fits, behind a process of priority b
 abbrev pub fitsIn : List ℕ → ℕ → ℕ → ℕ → Bool

@@ -1,13 +1,13 @@
 // The members of one ring: the ring is walked from its first to its tail, and each process marked as it is met. Assumes nothing.
 use area::layout;
 ghost use mathlib.Core.Path.{_≡_};
-ghost use mathlib.Core.Bool.{not};
+ghost use mathlib.Core.Bool.{not, _&&_};
 ghost use mathlib.Core.List.{List};
-ghost use Prim.Native.Nat.{ℕ, _*_, _/_, _≤_, _<_};
-ghost use lib.Dec.{leb};
+ghost use Prim.Native.Nat.{ℕ, _+_, _*_, _/_, _%_, _≤_, _<_};
+ghost use lib.Dec.{eqb, leb};
 ghost use lib.ListN.{length};
 ghost use Rattle.members.specs.Marks.{metIn, marked};
-ghost use Rattle.members.specs.Walk.{isEligible, isAsleep, fitting, ringed, Met, Told};
+ghost use Rattle.members.specs.Walk.{isEligible, isAsleep, isIdle, fitting, ringed, Met, Told};
 
 // A word of the table has 64 bits: the number of a bit has six.
 const SHIFT: usize = 6;
@@ -16,6 +16,9 @@ const MASK: usize = 63;
 
 // A word of the area has a number below this.
 const WORD: u32 = 65536;
+
+// Of the flags, above a link: all bits but abort; and the three lowest of the link.
+const FLAGGED: u32 = 4294836231;
 
 // The answer where a ring is broken, above every number of processes.
 pub const BROKEN: usize = 1024;
@@ -49,14 +52,29 @@ fn eligible(processes: usize, holder: usize, p: usize) -> bool
     p != holder
 }
 
-// Whether a process in a condition may have these flags and this timer: it waits, and has a timer only if it is armed. The two words are asked as one number first, which a compiler reads at once.
-fn asleep(flags: u16, timer: u16) -> bool
-    ensures { λ r. ⌜ r ≡ isAsleep flags timer ⌝ }
+// The flags but for abort, above the low bits of a link: as one number, which a compiler reads at once.
+fn flagged(link: u16, flags: u16) -> u32
+    ensures { λ r. ⌜ r ≡ flags / 2 * 131072 + link % 8 ⌝ }
 {
-    if timer as u32 * WORD + flags as u32 == layout::WAITING as u32 {
-        return true;
+    (flags as u32 * WORD + link as u32) & FLAGGED
+}
+
+// Whether a process in a condition may have this link, these flags and this timer: it waits, has a timer only if it is armed, and is not failed.
+fn asleep(link: u16, flags: u16, timer: u16) -> bool
+    ensures { λ r. ⌜ r ≡ isAsleep flags timer && eqb (link % 8) 0 ⌝ }
+{
+    let both = flagged(link, flags);
+    if both == layout::WAITING as u32 * WORD {
+        return timer == 0;
     }
-    flags == layout::WAITING + links::ARMED
+    both == (layout::WAITING + links::ARMED) as u32 * WORD
+}
+
+// Whether a process in any other queue may have these flags and this timer, as one number: it does not wait, is not armed and has no timer.
+fn idle(flags: u16, timer: u16) -> bool
+    ensures { λ r. ⌜ r ≡ isIdle flags timer ⌝ }
+{
+    timer as u32 * WORD + flags as u32 <= layout::ABORT as u32
 }
 
 // Whether a record fits a queue of this kind.
@@ -64,15 +82,9 @@ fn fits(kind: u16, link: u16, flags: u16, timer: u16) -> bool
     ensures { λ r. ⌜ r ≡ fitting kind link flags timer ⌝ }
 {
     if kind == heads::CONDITION {
-        if !asleep(flags, timer) {
-            return false;
-        }
-        return link & links::LOW == 0;
+        return asleep(link, flags, timer);
     }
-    if flags != 0 {
-        return false;
-    }
-    if timer != 0 {
+    if !idle(flags, timer) {
         return false;
     }
     if kind == heads::LOCK {

@@ -3,14 +3,15 @@ use Prim.Native.Nat.{ℕ, _≤_}
 use mathlib.Core.Path.{_≡_, refl, subst}
 use mathlib.Core.Bool.{Bool, true, false, _&&_}
 use mathlib.Core.List.{List, [], _∷_}
-use lib.Dec.{leb}
+use lib.Dec.{eqb, leb}
 use Rattle.model.specs.declared.Shape.{Shape}
 use Rattle.model.specs.declared.Call.{Call}
-use Rattle.model.specs.declared.Call.the-variants.{Enter, Exit, Wait, Notify, Broadcast, Naked, Requeue, SetPriority, Tick}
+use Rattle.model.specs.declared.Call.the-variants.{Enter, Exit, Wait, Notify, Broadcast, Naked, Requeue, SetPriority, Tick, Abort, SetAbortable, Reenter}
 use Rattle.model.specs.Queue.{Queue, Note}
-use Rattle.model.specs.Queue.Queue.{condition}
-use Rattle.model.specs.Field.{Fields}
-use Rattle.model.specs.Rules.{Effect, when, choose, nakedly, decide}
+use Rattle.model.specs.Queue.Queue.{lock, condition}
+use Rattle.model.specs.Field.{Fields, put}
+use Rattle.model.specs.Field.Field.{running, failed, holder}
+use Rattle.model.specs.Rules.{Effect, when, choose, nakedly, enters, decide}
 use Rattle.model.specs.Rules.Effect.{refuse, accept}
 use Rattle.model.proofs.Tests.{so, leb-case, and-split}
 
@@ -38,27 +39,35 @@ module _ {P : Fields → List Note → ℕ → Type 0} where
   nakedly-by c [] s h k = h refl
   nakedly-by c (x ∷ ys) s h k = k x ys refl
 
+  -- both ways of Enter past its codes
+  pub enters-by : (l : ℕ) (s : Fields) → (eqb (s (holder l)) 0 ≡ true → P (put (holder l) (s running) s) [] 1)
+      → (eqb (s (holder l)) 0 ≡ false → P (put (failed (s running)) 1 s) ((s running, lock l) ∷ []) 0) → Accepted P (enters l s)
+  enters-by l s h k = choose-by (λ e. accepted (h e)) (λ e. accepted (k e))
+
   -- what is refused has such a code
   pub of-refuse : {k : ℕ} → Accepted P (refuse k) → (2 ≤ k) × (k ≤ 10)
   of-refuse {k} (refused e) = let s = and-split (leb 2 k) (leb k 10) e in (so (leb-case 2 k) (s .0), so (leb-case k 10) (s .1))
 
--- a mark is 0 or 1
+-- a mark is 0, 1 or 2
 abbrev pub Marked : Fields → List Note → ℕ → Type 0
-Marked f ms k = leb k 1 ≡ true
+Marked f ms k = leb k 2 ≡ true
 
 pub decide-marks : (n : Shape) (s : Fields) (qs : Queue → List ℕ) (c : Call) → Accepted Marked (decide n s qs c)
 unfolding decide nakedly
-decide-marks n s qs (Enter l) =
-    when-by _ refl (λ _. when-by _ refl (λ _. when-by _ refl (λ _. choose-by (λ _. accepted refl) (λ _. accepted refl))))
+decide-marks n s qs (Enter l) = when-by _ refl (λ _. when-by _ refl (λ _. when-by _ refl (λ _. enters-by l s (λ _. refl) (λ _. refl))))
 decide-marks n s qs (Exit l) = when-by _ refl (λ _. when-by _ refl (λ _. when-by _ refl (λ _. accepted refl)))
 decide-marks n s qs (Wait l c t) =
-    when-by _ refl (λ _. when-by _ refl (λ _. when-by _ refl (λ _. choose-by (λ _. accepted refl) (λ _. accepted refl))))
+    when-by _ refl (λ _. when-by _ refl (λ _. when-by _ refl (λ _. choose-by (λ _. accepted refl) (λ _. choose-by (λ _. accepted refl) (λ _. accepted refl)))))
 decide-marks n s qs (Notify c) = when-by _ refl (λ _. when-by _ refl (λ _. accepted refl))
 decide-marks n s qs (Broadcast c) = when-by _ refl (λ _. when-by _ refl (λ _. accepted refl))
 decide-marks n s qs (Naked c) = when-by _ refl (λ _. nakedly-by c (qs (condition c)) s (λ _. accepted refl) (λ x ys _. accepted refl))
 decide-marks n s qs (Requeue a b p) = when-by _ refl (λ _. when-by _ refl (λ _. accepted refl))
 decide-marks n s qs (SetPriority v) = when-by _ refl (λ _. when-by _ refl (λ _. accepted refl))
 decide-marks n s qs Tick = accepted refl
+decide-marks n s qs (Abort p) = when-by _ refl (λ _. accepted refl)
+decide-marks n s qs (SetAbortable c v) = when-by _ refl (λ _. accepted refl)
+decide-marks n s qs (Reenter l c) =
+    when-by _ refl (λ _. when-by _ refl (λ _. when-by _ refl (λ _. choose-by (λ _. accepted refl) (λ _. enters-by l s (λ _. refl) (λ _. refl)))))
 
 -- no rule refuses with code 0, nor with code 1
 pub codes : (n : Shape) (s : Fields) (qs : Queue → List ℕ) (c : Call) (k : ℕ) → decide n s qs c ≡ refuse k → (2 ≤ k) × (k ≤ 10)

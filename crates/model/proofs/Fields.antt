@@ -1,6 +1,6 @@
 -- What waking and dispatch leave of the fields: a field that no put names stays. By induction on the processes. Assumes nothing.
 use Prim.Native.Nat.{ℕ}
-use mathlib.Core.Path.{_≡_, refl, _∙_, fun-ext}
+use mathlib.Core.Path.{_≡_, refl, sym, ap, _∙_, fun-ext}
 use mathlib.Core.Logic.{_≢_}
 use mathlib.Core.Bool.{true, false, false≢true}
 use mathlib.Core.List.{List, [], _∷_}
@@ -10,7 +10,7 @@ use Rattle.model.specs.Field.{Field, Fields, put, priorities}
 use Rattle.model.specs.Field.Field.{running, priority, armed, timer, failed}
 use Rattle.model.specs.Rules.{disarm, calm}
 use Rattle.model.specs.Machine.{dispatch}
-use Rattle.model.proofs.Tests.{holds, fails, EqCase, eqb-case, put-here, put-away, or-split, not-so}
+use Rattle.model.proofs.Tests.{holds, fails, EqCase, eqb-case, PutCase, put-case, put-here, put-away, or-split, not-so}
 
 -- a field that is neither an armed nor a timer
 pub calm-away : (g : Field) → ((p : ℕ) (s : Fields) → disarm p s g ≡ s g) → (ps : List ℕ) (s : Fields) → calm ps s g ≡ s g
@@ -55,6 +55,14 @@ module _ {F : ℕ → Field} (C : Cleared F) where
       go (holds d z) ih = calm-none p ps (disarm x s) (rw d (C .here p s))
       go (fails d z) ih = ih (rw z at e)
 
+-- the value that a field has changes nothing
+pub put-own : (f : Field) (v : ℕ) (s : Fields) → s f ≡ v → put f v s ≡ s
+put-own f v s e = fun-ext (λ g. go g (put-case f g))
+  where
+    go : (g : Field) → PutCase f g → put f v s g ≡ s g
+    go g (holds d z) = rw z (sym e ∙ ap s d)
+    go g (fails d z) = rw z
+
 -- a field that is neither running nor failed
 pub dispatch-away : (g : Field) → ((x : ℕ) (s : Fields) → put running x s g ≡ s g) → ((x : ℕ) (s : Fields) → put (failed x) 0 s g ≡ s g)
     → (xs : List ℕ) (s : Fields) → dispatch xs s g ≡ s g
@@ -63,6 +71,11 @@ dispatch-away g h k (x ∷ xs) s = k x (put running x s) ∙ h x s
 
 pub dispatch-priorities : (xs : List ℕ) (s : Fields) → priorities (dispatch xs s) ≡ priorities s
 dispatch-priorities xs s = fun-ext (λ p. dispatch-away (priority p) (λ x t. refl) (λ x t. refl) xs s)
+
+-- where the first runs already and is not failed, dispatch changes nothing
+pub dispatch-same : (xs : List ℕ) (s : Fields) → s running ≡ first xs → s (failed (first xs)) ≡ 0 → dispatch xs s ≡ s
+dispatch-same [] s r f = put-own running 0 s r
+dispatch-same (x ∷ xs) s r f = put-own (failed x) 0 (put running x s) f ∙ put-own running x s r
 
 pub dispatch-running : (xs : List ℕ) (s : Fields) → dispatch xs s running ≡ first xs
 dispatch-running [] s = refl

@@ -9,7 +9,7 @@ use Rattle.model.specs.declared.Shape.{Shape}
 use Rattle.model.specs.Queue.{Queue, inside, same, exists, member, first, Falling, toReady, isCondition}
 use Rattle.model.specs.Queue.Queue.{ready, park, lock, condition}
 use Rattle.model.specs.Field.{Field, Fields, put, some, priorities}
-use Rattle.model.specs.Field.Field.{clock, running, priority, armed, timer, failed, holder, wakeup}
+use Rattle.model.specs.Field.Field.{clock, running, priority, armed, timer, failed, abort, holder, wakeup, abortable}
 use Rattle.model.specs.Rules.{counted, disarm, calm}
 use Rattle.model.specs.Machine.{State, model}
 use Rattle.model.specs.Valid.{each, room, Valid}
@@ -42,8 +42,10 @@ Suits n s place (priority p) v = Unit {0}
 Suits n s place (armed p) v = (inside (n .processes) p ≡ true → Fits (place p) v (s (failed p))) × (v ≡ 0 → s (timer p) ≡ 0)
 Suits n s place (timer p) v = s (armed p) ≡ 0 → v ≡ 0
 Suits n s place (failed p) v = inside (n .processes) p ≡ true → Fits (place p) (s (armed p)) v
+Suits n s place (abort p) v = Unit {0}
 Suits n s place (holder l) v = some v ≡ true → same (place v) (lock l) ≡ false
 Suits n s place (wakeup c) v = some v ≡ true → (p : ℕ) → inside (n .processes) p ≡ true → same (place p) (condition c) ≡ false
+Suits n s place (abortable c) v = Unit {0}
 
 pub good-put : (n : Shape) (s : Fields) (place : ℕ → Queue) (f : Field) (v : ℕ) → Good n s place → v < room n f → Suits n s place f v → Good n (put f v s) place
 good-put n s place f v h r k = record {

@@ -9,20 +9,20 @@ use lib.Dec.{eqb, ltb}
 use lib.ListN.{length, getD, length-append, List·getD-eq-default}
 use Rattle.model.specs.declared.Shape.{Shape}
 use Rattle.model.specs.declared.Call.{Call}
-use Rattle.model.specs.declared.Call.the-variants.{Enter, Exit, Wait, Notify, Broadcast, Naked, Requeue, SetPriority, Tick}
+use Rattle.model.specs.declared.Call.the-variants.{Enter, Exit, Wait, Notify, Broadcast, Naked, Requeue, SetPriority, Tick, Abort, SetAbortable, Reenter}
 use Rattle.model.specs.declared.Answer.{Answer}
 use Rattle.model.specs.Queue.{Queue, Note, inside, outside, bit, upTo, same, exists, member, first, firstOnly, toReady, Falling}
 use Rattle.model.specs.Queue.Queue.{ready, park, lock, condition}
 use Rattle.model.specs.Field.{Field, Fields, put, some, priorities}
-use Rattle.model.specs.Field.Field.{clock, running, priority, armed, timer, failed, holder, wakeup}
-use Rattle.model.specs.Rules.{Effect, decide, nakedly, released, calm, alarm, arm, readyOrPark, rings, due, counted, anyAbove, startCode, fresh}
+use Rattle.model.specs.Field.Field.{clock, running, priority, armed, timer, failed, abort, holder, wakeup, abortable}
+use Rattle.model.specs.Rules.{Effect, decide, nakedly, enters, released, abortably, called, calm, alarm, arm, readyOrPark, rings, due, counted, anyAbove, startCode, fresh}
 use Rattle.model.specs.Rules.Effect.{refuse, accept}
 use Rattle.model.specs.Machine.{State, model, moves, dispatch, retry, arrivals, ahead, finish, obey, step, after, start}
 use Rattle.model.specs.Valid.{room, Placed, Valid}
 use Rattle.model.proofs.Tests.{holds, fails, so, not-so, stops, EqCase, eqb-case, eqb-yes, LeCase, leb-case, same-case, put-here, or-split, not-false, not-below, bit-small, inside-bounds, bounds-inside, outside-inside}
 use Rattle.model.proofs.Lists.{member-here, member-there, first-there, first-member, firstOnly-member, filter-member, upTo-member, filter-length, all-append}
 use Rattle.model.proofs.Fields.{armed-cleared, calm-clears, dispatch-priorities, dispatch-running}
-use Rattle.model.proofs.Accepted.{Accepted, accepted, Marked, when-by, choose-by, nakedly-by, of-refuse, decide-marks}
+use Rattle.model.proofs.Accepted.{Accepted, accepted, Marked, when-by, choose-by, nakedly-by, enters-by, of-refuse, decide-marks}
 use Rattle.model.proofs.Simulation.{Bounded, Ranked, decide-keeps}
 use Rattle.model.proofs.Places.{sent, relocate, relocate-append, arrivals-few, arrivals-append, ahead-few, Stands, Movers, stands-moves, member-is, stands-at, queue-length, falling-all, falling-moves, stands-start}
 use Rattle.model.proofs.Good.{Fits, Good, good-put, good-zero, good-calm, good-move, good-ready, each-most, each-none, each-low, of-valid, to-valid}
@@ -139,8 +139,8 @@ module _ (n : Shape) (s : Fields) (qs : Queue → List ℕ) (v : Valid n record 
   }
 
   -- the free lock is taken: its holder stands in ready
-  enters : (l : ℕ) → eqb (s running) 0 ≡ false → inside (n .locks) l ≡ true → Good n (put (holder l) (s running) s) (v .placed .place)
-  enters l r i = good-put n s (v .placed .place) (holder l) (s running) good (rw i (good .range running)) (λ z. rw ((standing (s running) ready (runner r)) .1))
+  takes : (l : ℕ) → eqb (s running) 0 ≡ false → inside (n .locks) l ≡ true → Good n (put (holder l) (s running) s) (v .placed .place)
+  takes l r i = good-put n s (v .placed .place) (holder l) (s running) good (rw i (good .range running)) (λ z. rw ((standing (s running) ready (runner r)) .1))
 
   -- the running process fails and moves to the lock, whose holder is another
   queues-up : (l : ℕ) → eqb (s running) 0 ≡ false → inside (n .locks) l ≡ true → eqb (s (holder l)) (s running) ≡ false
@@ -151,6 +151,12 @@ module _ (n : Shape) (s : Fields) (qs : Queue → List ℕ) (v : Valid n record 
       good-move n (put (failed (s running)) 1 s) (v .placed .place) (s running) (lock l)
       (good-put n s (v .placed .place) (failed (s running)) 1 good (rw (k .0) (omega arith)) (λ z. rw (k .1) t)) i (put-here (failed (s running)) 1 s, t)
       (λ j e. stops (same-case (lock l) (lock j)) (λ d. not-so (eqb-case (s (holder l)) (s running)) o (cc))) (λ c e. refl)
+
+  -- Enter past its codes
+  goes-in : (l : ℕ) → eqb (s running) 0 ≡ false → inside (n .locks) l ≡ true → eqb (s (holder l)) (s running) ≡ false → Accepted (Fine n (v .placed .place)) (enters l s)
+  goes-in l r i o = enters-by l s
+      (λ e. still (put (holder l) (s running) s) 1 (takes l r i))
+      (λ e. one (put (failed (s running)) 1 s) 0 (s running) (lock l) ready (runner r) (queues-up l r i o))
 
   -- the wait goes on in ready
   stays : (l c : ℕ) → Fine n (v .placed .place) (put (wakeup c) 0 (put (holder l) 0 s)) (released qs l) 0
@@ -206,16 +212,28 @@ module _ (n : Shape) (s : Fields) (qs : Queue → List ℕ) (v : Valid n record 
   due-long : (now : ℕ) → length (due n s now) ≤ n .processes
   due-long now = let a = filter-length (rings s now) (upTo (n .processes)) in let b = upTo-length (n .processes) in omega arith
 
+  -- one process or nobody
+  in-only : (p : ℕ) (b : Bool) → inside (n .processes) p ≡ true → (x : ℕ) → member x (cond b (p ∷ []) []) ≡ true → inside (n .processes) x ≡ true
+  in-only p true i x e = go (eqb-case p x) e
+    where
+      go : EqCase p x → eqb p x || false ≡ true → inside (n .processes) x ≡ true
+      go (holds d z) e = rw (← d) i
+      go (fails d z) e = absurd (false≢true (rw z at e))
+  in-only p false i x e = absurd (false≢true e)
+
+  only-long : (p : ℕ) (b : Bool) → inside (n .processes) p ≡ true → length (cond b (p ∷ []) []) ≤ n .processes
+  only-long p true i = let k = inside-bounds (n .processes) p i in omega arith
+  only-long p false i = omega arith
+
   -- every rule leaves what is valid but for dispatch
   pub decide-good : (c : Call) → Accepted (Fine n (v .placed .place)) (decide n s qs c)
   unfolding decide nakedly
-  decide-good (Enter l) = when-by _ refl (λ r. when-by _ refl (λ j. when-by _ refl (λ o. choose-by
-      (λ e. accepted (still (put (holder l) (s running) s) 1 (enters l r (outside-inside (n .locks) l j))))
-      (λ e. accepted (one (put (failed (s running)) 1 s) 0 (s running) (lock l) ready (runner r) (queues-up l r (outside-inside (n .locks) l j) o))))))
+  decide-good (Enter l) = when-by _ refl (λ r. when-by _ refl (λ j. when-by _ refl (λ o. goes-in l r (outside-inside (n .locks) l j) o)))
   decide-good (Exit l) = when-by _ refl (λ r. when-by _ refl (λ j. when-by _ refl (λ o. accepted (leaving l))))
   decide-good (Wait l c t) = when-by _ refl (λ r. when-by _ refl (λ j. when-by _ refl (λ o. choose-by
+      (λ e. accepted (leaving l)) (λ _. choose-by
       (λ e. accepted (stays l c))
-      (λ e. accepted (sleeps l c (t .0) r (outside-inside (n .conditions) c ((or-split (outside (n .locks) l) (outside (n .conditions) c) j) .1)) e)))))
+      (λ e. accepted (sleeps l c (t .0) r (outside-inside (n .conditions) c ((or-split (outside (n .locks) l) (outside (n .conditions) c) j) .1)) e))))))
   decide-good (Notify c) = when-by _ refl (λ r. when-by _ refl (λ j. accepted (waking s 0 (firstOnly (qs (condition c))) good (in-first (condition c)) (first-long (condition c)))))
   decide-good (Broadcast c) = when-by _ refl (λ r. when-by _ refl (λ j. accepted (waking s 0 (qs (condition c)) good (in-queue (condition c)) (long (condition c)))))
   decide-good (Naked c) = when-by _ refl (λ j. nakedly-by c (qs (condition c)) s
@@ -229,6 +247,16 @@ module _ (n : Shape) (s : Fields) (qs : Queue → List ℕ) (v : Valid n record 
       accepted (one (put (priority (s running)) (w .0) s) 0 (s running) ready ready (runner r) (ranks (w .0) r (not-below 7 (w .0) e)))))
   decide-good Tick = let now = (s clock + 1) % 65536 in let h : now < 65536 = omega arith in
       accepted (waking (put clock now s) 0 (due n s now) (good-put n s (v .placed .place) clock now good h tt) (in-due now) (due-long now))
+  decide-good (Abort p) = when-by _ refl (λ j.
+      let i = outside-inside (n .processes) (p .0) j in
+      accepted (waking (put (abort (p .0)) 1 s) 0 (called n s qs (p .0)) (good-put n s (v .placed .place) (abort (p .0)) 1 good (rw i (omega arith)) tt) (in-only (p .0) (abortably n s qs (p .0)) i) (only-long (p .0) (abortably n s qs (p .0)) i)))
+  decide-good (SetAbortable c w) = when-by _ refl (λ j.
+      let k = or-split (outside (n .conditions) c) (ltb 1 w) j in
+      let u = not-below 1 w (k .1) in
+      accepted (still (put (abortable c) w s) 0 (good-put n s (v .placed .place) (abortable c) w good (rw (outside-inside (n .conditions) c (k .0)) (omega arith)) tt)))
+  decide-good (Reenter l c) = when-by _ refl (λ r. when-by _ refl (λ j. when-by _ refl (λ o. choose-by
+      (λ e. accepted (still (put (abort (s running)) 0 s) 2 (good-zero n s (v .placed .place) (abort (s running)) good tt)))
+      (λ e. goes-in l r (outside-inside (n .locks) l ((or-split (outside (n .locks) l) (outside (n .conditions) c) j) .0)) o))))
 
 -- ---- dispatch
 
@@ -328,8 +356,10 @@ fresh-range n bytes h (priority p) = let k = fresh-bounded bytes (h .low) p in e
 fresh-range n bytes h (armed p) = each-low (n .processes) p 2 0 (omega arith) (λ e. refl)
 fresh-range n bytes h (timer p) = each-low (n .processes) p 65536 0 (omega arith) (λ e. refl)
 fresh-range n bytes h (failed p) = each-low (n .processes) p 2 0 (omega arith) (λ e. refl)
+fresh-range n bytes h (abort p) = each-low (n .processes) p 2 0 (omega arith) (λ e. refl)
 fresh-range n bytes h (holder l) = each-low (n .locks) l (suc (n .processes)) 0 (omega arith) (λ e. refl)
 fresh-range n bytes h (wakeup c) = each-low (n .conditions) c 2 0 (omega arith) (λ e. refl)
+fresh-range n bytes h (abortable c) = each-low (n .conditions) c 2 0 (omega arith) (λ e. refl)
 
 fresh-good : (n : Shape) (bytes : List ℕ) → Given n bytes → Good n (fresh bytes) (λ p. ready)
 fresh-good n bytes h = record {
@@ -354,7 +384,7 @@ pub record Small (n : Shape) (a : Answer) : Type 0 where
   pub code : a .code ≤ 10
   pub running : a .running ≤ n .processes
   pub retry : a .retry ≤ 1
-  pub mark : a .mark ≤ 1
+  pub mark : a .mark ≤ 2
   pub moved : a .moved ≤ n .processes
   pub ahead : a .ahead ≤ n .processes
 
@@ -362,7 +392,7 @@ retry-small : (n : Shape) (g : Fields) (xs : List ℕ) → ((f : Field) → g f 
 retry-small n g [] h = omega arith
 retry-small n g (x ∷ xs) h = let k = each-most (n .processes) x 2 (g (failed x)) (h (failed x)) (omega arith) in omega arith
 
-finish-small : (n : Shape) (g : Fields) (qs : Queue → List ℕ) (k a b : ℕ) → Valid n ((finish model g qs k a b) .0) → ((f : Field) → g f < room n f) → k ≤ 1 → a ≤ n .processes → b ≤ n .processes → Small n ((finish model g qs k a b) .1)
+finish-small : (n : Shape) (g : Fields) (qs : Queue → List ℕ) (k a b : ℕ) → Valid n ((finish model g qs k a b) .0) → ((f : Field) → g f < room n f) → k ≤ 2 → a ≤ n .processes → b ≤ n .processes → Small n ((finish model g qs k a b) .1)
 finish-small n g qs k a b v h m d e = record {
   code = omega arith;
   running = let w = v .placed .range running in let r = dispatch-running (qs ready) g in omega arith;
@@ -376,7 +406,7 @@ obey-small : (n : Shape) (s : State model) (v : Valid n s) (e : Effect) → Vali
 obey-small n s v (refuse k) w h r = let b = of-refuse h in record { code = b .1; running = omega arith; retry = omega arith; mark = omega arith; moved = omega arith; ahead = omega arith }
 obey-small n s v (accept g ms k) w (accepted h) (accepted r) =
     let qs = moves model (priorities g) (s .queues) ms in
-    finish-small n g qs k (arrivals (s .queues ready) ms) (ahead qs ms) w (r .good .range) (so (leb-case k 1) h) (r .few (s .queues ready))
+    finish-small n g qs k (arrivals (s .queues ready) ms) (ahead qs ms) w (r .good .range) (so (leb-case k 2) h) (r .few (s .queues ready))
     (ahead-few qs ms (λ q. queue-length (n .processes) qs (w .placed .place) (w .placed .once) q))
 
 pub step-small : (n : Shape) (s : State model) (c : Call) → Valid n s → Small n ((step model n s c) .1)

@@ -15,3 +15,4 @@ pub mod Rules
 pub mod Ticking
 pub mod Sleeping
 pub mod Reports
+pub mod Aborts

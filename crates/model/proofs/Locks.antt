@@ -7,19 +7,19 @@ use mathlib.Core.List.{List, [], _∷_}
 use lib.Dec.{eqb}
 use Rattle.model.specs.declared.Shape.{Shape}
 use Rattle.model.specs.declared.Call.{Call}
-use Rattle.model.specs.declared.Call.the-variants.{Enter, Exit, Wait, Notify, Broadcast, Naked, Requeue, SetPriority, Tick}
+use Rattle.model.specs.declared.Call.the-variants.{Enter, Exit, Wait, Notify, Broadcast, Naked, Requeue, SetPriority, Tick, Abort, SetAbortable, Reenter}
 use Rattle.model.specs.declared.Answer.{Answer}
 use Rattle.model.specs.Queue.{Queue, Note, bit, firstOnly}
 use Rattle.model.specs.Queue.Queue.{ready, condition}
 use Rattle.model.specs.Field.{Fields, put, priorities}
-use Rattle.model.specs.Field.Field.{clock, running, holder}
-use Rattle.model.specs.Rules.{Effect, decide, nakedly, calm, due}
+use Rattle.model.specs.Field.Field.{clock, running, abort, holder}
+use Rattle.model.specs.Rules.{Effect, decide, nakedly, calm, called, due}
 use Rattle.model.specs.Rules.Effect.{refuse, accept}
 use Rattle.model.specs.Machine.{Machine, State, moves, refusal, obey, step, after, answers, locked}
 use Rattle.model.specs.History.{isEntry, isLeaving, tally}
 use Rattle.model.proofs.Tests.{holds, fails, so, EqCase, eqb-case, eqb-no, put-here, put-away, not-false}
 use Rattle.model.proofs.Fields.{calm-away, dispatch-away}
-use Rattle.model.proofs.Accepted.{Accepted, accepted, when-by, choose-by, nakedly-by, of-refuse}
+use Rattle.model.proofs.Accepted.{Accepted, accepted, when-by, choose-by, nakedly-by, enters-by, of-refuse}
 
 -- 1 while a lock is locked
 abbrev pub held : Fields → ℕ → ℕ
@@ -60,16 +60,22 @@ calmed s l ps = rw (calm-away (holder l) (λ p t. refl) ps s) (keep (held s l))
 decide-fair : (n : Shape) (s : Fields) (qs : Queue → List ℕ) (l : ℕ) (c : Call) → Accepted (Fair s l c) (decide n s qs c)
 unfolding decide nakedly
 decide-fair n s qs l (Enter j) =
-    when-by _ refl (λ r. when-by _ refl (λ _. when-by _ refl (λ _. choose-by (λ e. accepted (λ a. taken s l j r e)) (λ _. accepted (λ a. rw and-false (keep (held s l)))))))
+    when-by _ refl (λ r. when-by _ refl (λ _. when-by _ refl (λ _. enters-by j s (λ e a. taken s l j r e) (λ _ a. rw and-false (keep (held s l))))))
 decide-fair n s qs l (Exit j) = when-by _ refl (λ r. when-by _ refl (λ _. when-by _ refl (λ e. accepted (λ a. left s l j r e))))
 decide-fair n s qs l (Wait j c t) =
-    when-by _ refl (λ r. when-by _ refl (λ _. when-by _ refl (λ e. choose-by (λ _. accepted (λ a. left s l j r e)) (λ _. accepted (λ a. left s l j r e)))))
+    when-by _ refl (λ r. when-by _ refl (λ _. when-by _ refl (λ e. choose-by
+    (λ _. accepted (λ a. left s l j r e)) (λ _. choose-by (λ _. accepted (λ a. left s l j r e)) (λ _. accepted (λ a. left s l j r e))))))
 decide-fair n s qs l (Notify c) = when-by _ refl (λ _. when-by _ refl (λ _. accepted (λ a. calmed s l (firstOnly (qs (condition c))))))
 decide-fair n s qs l (Broadcast c) = when-by _ refl (λ _. when-by _ refl (λ _. accepted (λ a. calmed s l (qs (condition c)))))
 decide-fair n s qs l (Naked c) = when-by _ refl (λ _. nakedly-by c (qs (condition c)) s (λ _. accepted (λ a. keep (held s l))) (λ x ys _. accepted (λ a. keep (held s l))))
 decide-fair n s qs l (Requeue a b p) = when-by _ refl (λ _. when-by _ refl (λ _. accepted (λ a. keep (held s l))))
 decide-fair n s qs l (SetPriority v) = when-by _ refl (λ _. when-by _ refl (λ e. accepted (λ a. keep (held s l))))
 decide-fair n s qs l Tick = let now = (s clock + 1) % 65536 in accepted (λ a. calmed (put clock now s) l (due n s now))
+decide-fair n s qs l (Abort p) = when-by _ refl (λ _. accepted (λ a. calmed (put (abort (p .0)) 1 s) l (called n s qs (p .0))))
+decide-fair n s qs l (SetAbortable c v) = when-by _ refl (λ _. accepted (λ a. keep (held s l)))
+decide-fair n s qs l (Reenter j c) =
+    when-by _ refl (λ r. when-by _ refl (λ _. when-by _ refl (λ _. choose-by
+    (λ _. accepted (λ a. rw and-false (keep (held s l)))) (λ _. enters-by j s (λ e a. taken s l j r e) (λ _ a. rw and-false (keep (held s l)))))))
 
 refusal-fair : (s : Fields) (l k : ℕ) (c : Call) → eqb k 0 ≡ false → Balanced s l c (refusal k) s
 refusal-fair s l k (Enter j) e = rw and-false (keep (held s l))
@@ -81,6 +87,9 @@ refusal-fair s l k (Naked c) e = keep (held s l)
 refusal-fair s l k (Requeue a b p) e = keep (held s l)
 refusal-fair s l k (SetPriority v) e = keep (held s l)
 refusal-fair s l k Tick e = keep (held s l)
+refusal-fair s l k (Abort p) e = keep (held s l)
+refusal-fair s l k (SetAbortable c v) e = keep (held s l)
+refusal-fair s l k (Reenter j c) e = rw and-false (keep (held s l))
 
 module _ (M : Machine) where
   obey-fair : (s : State M) (l : ℕ) (c : Call) (e : Effect) → Accepted (Fair (s .fields) l c) e → Balanced (s .fields) l c ((obey M s e) .1) ((obey M s e) .0 .fields)

@@ -3,21 +3,22 @@ use Prim.Native.Nat.{ℕ, zero, suc, _≤_}
 use native.Mathlib.Omega.{arith}
 use mathlib.Core.Path.{_≡_, refl, sym, ap, _∙_}
 use mathlib.Core.Logic.{_≢_}
-use mathlib.Core.Bool.{Bool, true, false, and-false, true≢false}
+use mathlib.Core.Bool.{Bool, true, false, cond, and-false, true≢false}
 use mathlib.Core.List.{List, [], _∷_}
 use lib.ListN.{length}
 use Rattle.model.specs.declared.Shape.{Shape}
-use Rattle.model.specs.Queue.{Queue, upTo, member, firstOnly, remove, insert, move, toReady}
-use Rattle.model.specs.Queue.Queue.{ready, lock}
+use Rattle.model.specs.Queue.{Queue, bit, inside, exists, upTo, member, firstOnly, remove, insert, move, toReady}
+use Rattle.model.specs.Queue.Queue.{ready, lock, condition}
 use Rattle.model.specs.Ledger.{byPriority}
+use Rattle.model.specs.Field.{Fields}
 use Rattle.model.specs.Field.Field.{armed}
-use Rattle.model.specs.Rules.{released, due}
+use Rattle.model.specs.Rules.{released, abortably, called, due}
 use Rattle.model.specs.Machine.{State, model, moves, arrivals, waiting}
 use Rattle.model.specs.Valid.{Valid}
 use Rattle.model.proofs.Tests.{same-case, stops, same-yes, denied, inside-bounds}
 use Rattle.model.proofs.Lists.{remove-absent, absent-count, member-here, member-there, nobody, firstOnly-member}
 use Rattle.model.proofs.Notes.{by-snoc}
-use Rattle.model.proofs.Places.{moves-append, toReady-append, Stands, stands-at, stands-start, waiting-is}
+use Rattle.model.proofs.Places.{moves-append, toReady-append, Stands, stands-at, stands-start, waiting-is, not-abortably}
 use Rattle.model.proofs.Rules.{due-rung}
 
 -- ---- one move
@@ -53,6 +54,27 @@ module _ (P : ℕ) (qs : Queue → List ℕ) (place : ℕ → Queue) (h : Stands
 
   pub released-moved : (l : ℕ) → arrivals (qs ready) (released qs l) ≡ length (firstOnly (qs (lock l)))
   released-moved l = first-moved (lock l) (λ e. let w : _≡_ {A = ℕ} 0 1 = cc in omega arith)
+
+-- no condition is ready
+pub apart : (c : ℕ) → condition c ≢ ready
+apart c e = let z : _≡_ {A = ℕ} 0 1 = cc in omega arith
+
+module _ (n : Shape) (qs : Queue → List ℕ) (place : ℕ → Queue) (h : Stands (n .processes) qs place) (p : ℕ) (real : inside (n .processes) p ≡ true → exists n (place p) ≡ true) where
+  -- who waits is not in ready
+  pub waits-outside : waiting n qs p ≡ true → member p (qs ready) ≡ false
+  waits-outside w = denied (member p (qs ready)) (λ d. true≢false (sym w ∙ waiting-is n qs place h p real ∙ rw ((stands-at (n .processes) qs place h p ready d) .1, and-false)))
+
+  -- so who is called off arrives there
+  pub called-moved : (s : Fields) → arrivals (qs ready) (toReady (called n s qs p)) ≡ bit (abortably n s qs p)
+  called-moved s = go (abortably n s qs p) refl
+    where
+      waits : (b : Bool) → waiting n qs p ≡ b → abortably n s qs p ≡ true → waiting n qs p ≡ true
+      waits true w e = w
+      waits false w e = absurd (true≢false (sym e ∙ not-abortably n s qs p w))
+
+      go : (b : Bool) → abortably n s qs p ≡ b → arrivals (qs ready) (toReady (cond b (p ∷ []) [])) ≡ bit b
+      go true e = rw (waits-outside (waits (waiting n qs p) refl e))
+      go false e = refl
 
 -- ---- Start's loop: process k + 1 after processes 1 to k
 
@@ -92,11 +114,7 @@ module _ (n : Shape) (s : State model) (v : Valid n s) (now p : ℕ) (e : member
       go false d = absurd (due-rung n (s .fields) now p e .0 (v .arms p d))
 
   pub due-outside : member p (s .queues ready) ≡ false
-  due-outside = go (member p (s .queues ready)) refl
-    where
-      go : (b : Bool) → member p (s .queues ready) ≡ b → b ≡ false
-      go true d = absurd (true≢false (sym due-waits ∙ waiting-is n (s .queues) (v .placed .place) (v .placed .once) p (v .placed .real p) ∙ rw ((stands-at (n .processes) (s .queues) (v .placed .place) (v .placed .once) p ready d) .1, and-false)))
-      go false d = refl
+  due-outside = waits-outside n (s .queues) (v .placed .place) (v .placed .once) p (v .placed .real p) due-waits
 
 pub due-moved : (n : Shape) (s : State model) → Valid n s → (now : ℕ) → arrivals (s .queues ready) (toReady (due n (s .fields) now)) ≡ length (due n (s .fields) now)
 due-moved n s v now = arrivals-ready (s .queues ready) (due n (s .fields) now) (λ p e. due-outside n s v now p e)

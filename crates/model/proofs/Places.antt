@@ -3,16 +3,18 @@ use Prim.Native.Nat.{ℕ, zero, suc, _+_, _≤_}
 use native.Mathlib.Omega.{arith}
 use mathlib.Core.Path.{_≡_, refl, sym, _∙_, subst}
 use mathlib.Core.Logic.{_≢_}
-use mathlib.Core.Bool.{Bool, true, false, not, _&&_, _||_, cond, or-true}
+use mathlib.Core.Bool.{Bool, true, false, not, _&&_, _||_, cond, or-true, and-false}
 use mathlib.Core.List.{List, [], _∷_, _++_}
 use lib.Dec.{eqb}
 use lib.ListN.{length}
 use Rattle.model.specs.declared.Shape.{Shape}
 use Rattle.model.specs.Queue.{Queue, Note, inside, upTo, anyOf, bit, same, exists, member, count, takeWhile, remove, insert, move, toReady, All, Falling, isCondition}
 use Rattle.model.specs.Queue.Queue.{ready, park, lock, condition}
-use Rattle.model.specs.Rules.{readyOrPark}
+use Rattle.model.specs.Field.{Fields, some}
+use Rattle.model.specs.Field.Field.{abortable}
+use Rattle.model.specs.Rules.{readyOrPark, abortably}
 use Rattle.model.specs.Machine.{model, moves, arrivals, ahead, waiting}
-use Rattle.model.proofs.Tests.{holds, fails, so, EqCase, eqb-case, eqb-yes, same-case, same-yes, and-split, bit-small, inside-bounds, bounds-inside}
+use Rattle.model.proofs.Tests.{holds, fails, so, EqCase, eqb-case, eqb-yes, same-case, same-yes, and-split, or-split, bit-small, inside-bounds, bounds-inside}
 use Rattle.model.proofs.Lists.{count-remove-same, count-remove-other, count-insert, member-bit, at-most, inside-suc, SameOff, falling-remove, falling-insert}
 use Rattle.model.proofs.Simulation.{Agree, alike, lead}
 
@@ -136,11 +138,16 @@ module _ (P : ℕ) (qs : Queue → List ℕ) (place : ℕ → Queue) (h : Stands
 
 -- ---- waiting: standing in a condition
 
-any-none : (k : ℕ) (t : ℕ → Bool) → ((i : ℕ) → t i ≡ false) → anyOf k t ≡ false
+pub any-none : (k : ℕ) (t : ℕ → Bool) → ((i : ℕ) → t i ≡ false) → anyOf k t ≡ false
 any-none zero t h = refl
 any-none (suc k) t h = rw (h (suc k)) (any-none k t h)
 
-any-some : (k : ℕ) (t : ℕ → Bool) (i : ℕ) → inside k i ≡ true → t i ≡ true → anyOf k t ≡ true
+-- with one test more there are none either
+any-less : (k : ℕ) (t u : ℕ → Bool) → anyOf k u ≡ false → anyOf k (λ i. t i && u i) ≡ false
+any-less zero t u h = refl
+any-less (suc k) t u h = let d = or-split (u (suc k)) (anyOf k u) h in rw (d .0, and-false) (any-less k t u (d .1))
+
+pub any-some : (k : ℕ) (t : ℕ → Bool) (i : ℕ) → inside k i ≡ true → t i ≡ true → anyOf k t ≡ true
 any-some zero t i h e = let b = inside-bounds 0 i h in let z : ⊥ = omega arith in absurd z
 any-some (suc k) t i h e = go (eqb-case (suc k) i) (any-some k t i)
   where
@@ -164,6 +171,10 @@ waiting-is n qs place h p x = go (inside (n .processes) p) refl (place p) refl
     go true i (park k) e = none (λ c. rw (i, e))
     go true i (lock l) e = none (λ c. rw (i, e))
     go true i (condition c) e = any-some (n .conditions) t c (rw e at (x i)) (at-place (n .processes) qs place h p (condition c) i e)
+
+-- who does not wait at all does not wait on an abortable condition
+pub not-abortably : (n : Shape) (s : Fields) (qs : Queue → List ℕ) (p : ℕ) → waiting n qs p ≡ false → abortably n s qs p ≡ false
+not-abortably n s qs p = any-less (n .conditions) (λ c. some (s (abortable c))) (λ c. member p (qs (condition c)))
 
 -- ---- queues keep falling
 

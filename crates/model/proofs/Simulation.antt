@@ -4,13 +4,13 @@ use mathlib.Core.Path.{_≡_, refl, ap, sym, _∙_, subst, fun-ext}
 use mathlib.Core.List.{List, [], _∷_, _++_}
 use Rattle.model.specs.declared.Shape.{Shape}
 use Rattle.model.specs.declared.Call.{Call}
-use Rattle.model.specs.declared.Call.the-variants.{Enter, Exit, Wait, Notify, Broadcast, Naked, Requeue, SetPriority, Tick}
+use Rattle.model.specs.declared.Call.the-variants.{Enter, Exit, Wait, Notify, Broadcast, Naked, Requeue, SetPriority, Tick, Abort, SetAbortable, Reenter}
 use Rattle.model.specs.declared.Answer.{Answer}
 use Rattle.model.specs.Queue.{Queue, Note, firstOnly, toReady, upTo}
 use Rattle.model.specs.Queue.Queue.{ready, condition}
 use Rattle.model.specs.Field.{Fields, put, priorities}
-use Rattle.model.specs.Field.Field.{running, priority}
-use Rattle.model.specs.Rules.{Effect, decide, nakedly, calm, due, fresh}
+use Rattle.model.specs.Field.Field.{running, priority, abort}
+use Rattle.model.specs.Rules.{Effect, decide, nakedly, calm, called, due, fresh}
 use Rattle.model.specs.Rules.Effect.{refuse, accept}
 use Rattle.model.specs.Machine.{State, model, moves, arrivals, ahead, finish, obey, step, after, answers, start}
 use Rattle.model.specs.Ledger.{ledger, reading}
@@ -18,7 +18,7 @@ use Rattle.model.proofs.Tests.{PutCase, holds, fails, put-case, put-awa
 use Rattle.model.proofs.Lists.{SameOff}
 use Rattle.model.proofs.Notes.{reading-snoc, reading-none}
 use Rattle.model.proofs.Fields.{calm-priorities, dispatch-priorities}
-use Rattle.model.proofs.Accepted.{Accepted, accepted, when-by, choose-by, nakedly-by}
+use Rattle.model.proofs.Accepted.{Accepted, accepted, when-by, choose-by, nakedly-by, enters-by}
 
 -- the ledger's state as the model has it
 abbrev pub view : State ledger → State model
@@ -71,11 +71,11 @@ module _ (n : Shape) (s : Fields) (qs : Queue → List ℕ) (h : Bounded (priori
   -- only SetPriority changes a priority: its caller's, who then moves
   pub decide-keeps : (c : Call) → Accepted (Ranked (priorities s)) (decide n s qs c)
   unfolding decide nakedly
-  decide-keeps (Enter l) =
-      when-by _ refl (λ _. when-by _ refl (λ _. when-by _ refl (λ _. choose-by (λ _. accepted (alike refl, h)) (λ _. accepted (alike refl, h)))))
+  decide-keeps (Enter l) = when-by _ refl (λ _. when-by _ refl (λ _. when-by _ refl (λ _. enters-by l s (λ _. (alike refl, h)) (λ _. (alike refl, h)))))
   decide-keeps (Exit l) = when-by _ refl (λ _. when-by _ refl (λ _. when-by _ refl (λ _. accepted (alike refl, h))))
   decide-keeps (Wait l c t) =
-      when-by _ refl (λ _. when-by _ refl (λ _. when-by _ refl (λ _. choose-by (λ _. accepted (alike refl, h)) (λ _. accepted (alike refl, h)))))
+      when-by _ refl (λ _. when-by _ refl (λ _. when-by _ refl (λ _. choose-by
+      (λ _. accepted (alike refl, h)) (λ _. choose-by (λ _. accepted (alike refl, h)) (λ _. accepted (alike refl, h))))))
   decide-keeps (Notify c) = when-by _ refl (λ _. when-by _ refl (λ _. accepted (wakes-keep (firstOnly (qs (condition c))) s refl)))
   decide-keeps (Broadcast c) = when-by _ refl (λ _. when-by _ refl (λ _. accepted (wakes-keep (qs (condition c)) s refl)))
   decide-keeps (Naked c) = when-by _ refl (λ _. nakedly-by c (qs (condition c)) s (λ _. accepted (alike refl, h)) (λ x ys _. accepted (alike refl, h)))
@@ -83,6 +83,11 @@ module _ (n : Shape) (s : Fields) (qs : Queue → List ℕ) (h : Bounded (priori
   decide-keeps (SetPriority v) =
       when-by _ refl (λ _. when-by _ refl (λ e. accepted (lead (put-off s (s running) (v .0)), put-bounded s (s running) (v .0) (not-below 7 (v .0) e) h)))
   decide-keeps Tick = accepted (wakes-keep (due n s _) _ refl)
+  decide-keeps (Abort p) = when-by _ refl (λ _. accepted (wakes-keep (called n s qs (p .0)) (put (abort (p .0)) 1 s) refl))
+  decide-keeps (SetAbortable c v) = when-by _ refl (λ _. accepted (alike refl, h))
+  decide-keeps (Reenter l c) =
+      when-by _ refl (λ _. when-by _ refl (λ _. when-by _ refl (λ _. choose-by
+      (λ _. accepted (alike refl, h)) (λ _. enters-by l s (λ _. (alike refl, h)) (λ _. (alike refl, h))))))
 
 -- ---- one call
 

@@ -10,12 +10,12 @@ use lib.Dec.{eqb}
 use Rattle.model.specs.declared.Shape.{Shape}
 use Rattle.model.specs.declared.Ticks.{Ticks}
 use Rattle.model.specs.declared.Call.{Call}
-use Rattle.model.specs.declared.Call.the-variants.{Enter, Exit, Wait, Notify, Broadcast, Naked, Requeue, SetPriority, Tick}
+use Rattle.model.specs.declared.Call.the-variants.{Enter, Exit, Wait, Notify, Broadcast, Naked, Requeue, SetPriority, Tick, Abort, SetAbortable, Reenter}
 use Rattle.model.specs.Queue.{Queue, Note, inside, outside, bit, same, member, firstOnly, toReady, isCondition}
 use Rattle.model.specs.Queue.Queue.{ready, park, lock, condition}
 use Rattle.model.specs.Field.{Fields, put, some, priorities}
-use Rattle.model.specs.Field.Field.{clock, running, armed, timer, holder}
-use Rattle.model.specs.Rules.{Effect, decide, nakedly, released, calm, alarm, arm, readyOrPark}
+use Rattle.model.specs.Field.Field.{clock, running, armed, timer, abort, holder}
+use Rattle.model.specs.Rules.{Effect, decide, nakedly, released, calm, called, alarm, arm, readyOrPark}
 use Rattle.model.specs.Rules.Effect.{refuse, accept}
 use Rattle.model.specs.Machine.{State, model, moves, dispatch, obey, step, waiting}
 use Rattle.model.specs.Valid.{Valid}
@@ -23,7 +23,7 @@ use Rattle.model.specs.Timers.{isTick, distance, ticksTo, left}
 use Rattle.model.proofs.Tests.{holds, fails, EqCase, eqb-case, eqb-yes, eqb-no, put-here, put-away, or-split, not-false, denied, outside-inside}
 use Rattle.model.proofs.Lists.{firstOnly-member}
 use Rattle.model.proofs.Fields.{calm-away, armed-cleared, timer-cleared, calm-other, dispatch-away}
-use Rattle.model.proofs.Accepted.{Accepted, accepted, when-by, choose-by, nakedly-by}
+use Rattle.model.proofs.Accepted.{Accepted, accepted, when-by, choose-by, nakedly-by, enters-by}
 use Rattle.model.proofs.Places.{sent, relocate, relocate-append, Stands, stands-moves, member-is, stands-at, at-place, waiting-is}
 use Rattle.model.proofs.Kept.{Fine, runner, decide-good}
 use Rattle.model.proofs.Rules.{alarm-at}
@@ -55,12 +55,16 @@ data Treats (s : Fields) (p : ℕ) (g : Fields) (ms : List Note) : Type 0 where
   spares : g clock ≡ s clock → g (armed p) ≡ s (armed p) → g (timer p) ≡ s (timer p) → names p ms ≡ false → Treats s p g ms
   wakes : (ps : List ℕ) → ms ≡ toReady ps → member p ps ≡ true → Treats s p g ms
 
-waking : (s : Fields) (p : ℕ) (ps : List ℕ) → Treats s p (calm ps s) (toReady ps)
-waking s p ps = go (member p ps) refl
+-- some wake, where nothing else was done to its timer
+waking-from : (s f : Fields) (p : ℕ) (ps : List ℕ) → f clock ≡ s clock → f (armed p) ≡ s (armed p) → f (timer p) ≡ s (timer p) → Treats s p (calm ps f) (toReady ps)
+waking-from s f p ps ec ea et = go (member p ps) refl
   where
-    go : (b : Bool) → member p ps ≡ b → Treats s p (calm ps s) (toReady ps)
+    go : (b : Bool) → member p ps ≡ b → Treats s p (calm ps f) (toReady ps)
     go true m = wakes ps refl m
-    go false m = spares (calm-away clock (λ x t. refl) ps s) (calm-other armed-cleared p ps s m) (calm-other timer-cleared p ps s m) (names-ready p ps ∙ m)
+    go false m = spares (calm-away clock (λ x t. refl) ps f ∙ ec) (calm-other armed-cleared p ps f m ∙ ea) (calm-other timer-cleared p ps f m ∙ et) (names-ready p ps ∙ m)
+
+waking : (s : Fields) (p : ℕ) (ps : List ℕ) → Treats s p (calm ps s) (toReady ps)
+waking s p ps = waking-from s s p ps refl refl refl
 
 module _ (n : Shape) (s : Fields) (qs : Queue → List ℕ) (p : ℕ) (runs : eqb (s running) 0 ≡ false → member (s running) (qs ready) ≡ true)
     (out : (q : Queue) → isCondition q ≡ false → member p (qs q) ≡ false) where
@@ -85,15 +89,15 @@ module _ (n : Shape) (s : Fields) (qs : Queue → List ℕ) (p : ℕ) (runs : eq
 
   treats : (c : Call) → isTick c ≡ false → Accepted (λ g ms k. Treats s p g ms) (decide n s qs c)
   unfolding decide nakedly
-  treats (Enter l) e = when-by _ refl (λ r. when-by _ refl (λ _. when-by _ refl (λ _. choose-by
-      (λ _. accepted (spares refl refl refl refl))
-      (λ _. accepted (spares refl refl refl (one (s running) (lock l) (other r)))))))
+  treats (Enter l) e = when-by _ refl (λ r. when-by _ refl (λ _. when-by _ refl (λ _. enters-by l s
+      (λ _. spares refl refl refl refl) (λ _. spares refl refl refl (one (s running) (lock l) (other r))))))
   treats (Exit l) e = when-by _ refl (λ _. when-by _ refl (λ _. when-by _ refl (λ _. accepted (spares refl refl refl (freed l)))))
   treats (Wait l c t) e = when-by _ refl (λ r. when-by _ refl (λ _. when-by _ refl (λ _. choose-by
+      (λ _. accepted (spares refl refl refl (freed l))) (λ _. choose-by
       (λ _. accepted (spares refl refl refl (freed l)))
       (λ _. accepted (spares refl (put-away (armed (s running)) (bit (some (t .0))) (put (holder l) 0 s) (armed p) (λ d. other r (cc)))
       (put-away (timer (s running)) (alarm (s clock) (t .0)) (put (armed (s running)) (bit (some (t .0))) (put (holder l) 0 s)) (timer p) (λ d. other r (cc)))
-      (names-append p (released qs l) ((s running, condition c) ∷ []) (freed l) (one (s running) (condition c) (other r))))))))
+      (names-append p (released qs l) ((s running, condition c) ∷ []) (freed l) (one (s running) (condition c) (other r)))))))))
   treats (Notify c) e = when-by _ refl (λ _. when-by _ refl (λ _. accepted (waking s p (firstOnly (qs (condition c))))))
   treats (Broadcast c) e = when-by _ refl (λ _. when-by _ refl (λ _. accepted (waking s p (qs (condition c)))))
   treats (Naked c) e = when-by _ refl (λ _. nakedly-by c (qs (condition c)) s (λ _. accepted (spares refl refl refl refl)) (λ x ys _. accepted (waking s p (x ∷ []))))
@@ -101,6 +105,11 @@ module _ (n : Shape) (s : Fields) (qs : Queue → List ℕ) (p : ℕ) (runs : eq
       accepted (spares refl refl refl (one (x .0) (readyOrPark b) (λ d. true≢false (sym (not-false (member (x .0) (qs (readyOrPark a))) o) ∙ rw d (low-out a)))))))
   treats (SetPriority w) e = when-by _ refl (λ r. when-by _ refl (λ _. accepted (spares refl refl refl (one (s running) ready (other r)))))
   treats Tick e = absurd (true≢false e)
+  treats (Abort x) e = when-by _ refl (λ _. accepted (waking-from s (put (abort (x .0)) 1 s) p (called n s qs (x .0)) refl refl refl))
+  treats (SetAbortable c v) e = when-by _ refl (λ _. accepted (spares refl refl refl refl))
+  treats (Reenter l c) e = when-by _ refl (λ r. when-by _ refl (λ _. when-by _ refl (λ _. choose-by
+      (λ _. accepted (spares refl refl refl refl))
+      (λ _. enters-by l s (λ _. spares refl refl refl refl) (λ _. spares refl refl refl (one (s running) (lock l) (other r)))))))
 
 -- ---- a call that does not wake it
 
@@ -119,6 +128,9 @@ tick-alone (Naked c) e = absurd (false≢true e)
 tick-alone (Requeue a b p) e = absurd (false≢true e)
 tick-alone (SetPriority v) e = absurd (false≢true e)
 tick-alone Tick e = refl
+tick-alone (Abort p) e = absurd (false≢true e)
+tick-alone (SetAbortable c v) e = absurd (false≢true e)
+tick-alone (Reenter l c) e = absurd (false≢true e)
 
 module _ (n : Shape) (s : State model) (v : Valid n s) (p : ℕ) where
   abbrev place : ℕ → Queue
@@ -198,8 +210,9 @@ module _ (n : Shape) (s : State model) (v : Valid n s) (l c : ℕ) (t : Ticks) w
   sleeps : Accepted Sleeps (decide n (s .fields) (s .queues) (Wait l c t))
   unfolding decide Sleeps
   sleeps = when-by _ refl (λ r. when-by _ refl (λ _. when-by _ refl (λ _. choose-by
+      (λ _. accepted (λ z. let w : ⊥ = omega arith in absurd w)) (λ _. choose-by
       (λ _. accepted (λ z. let w : ⊥ = omega arith in absurd w))
-      (λ _. accepted (λ z. (refl, refl, (stands-at (n .processes) (s .queues) (v .placed .place) (v .placed .once) (s .fields running) ready (runner n (s .fields) (s .queues) v r)) .0))))))
+      (λ _. accepted (λ z. (refl, refl, (stands-at (n .processes) (s .queues) (v .placed .place) (v .placed .once) (s .fields running) ready (runner n (s .fields) (s .queues) v r)) .0)))))))
 
   -- it leaves its caller in the condition, with t ticks left
   pub wait-left : (step model n s (Wait l c t)) .1 .mark ≡ 1 → 1 ≤ t .0 → t .0 ≤ 65535

@@ -7,11 +7,11 @@ use mathlib.Core.List.{List, [], _∷_, _++_, map}
 use lib.Dec.{eqb}
 use Rattle.model.specs.declared.Shape.{Shape}
 use Rattle.model.specs.declared.Call.{Call}
-use Rattle.model.specs.declared.Call.the-variants.{Enter, Exit, Wait, Notify, Broadcast, Naked, Requeue, SetPriority, Tick}
+use Rattle.model.specs.declared.Call.the-variants.{Enter, Exit, Wait, Notify, Broadcast, Naked, Requeue, SetPriority, Tick, Abort, SetAbortable, Reenter}
 use Rattle.model.specs.Queue.{Queue}
 use Rattle.model.specs.Queue.Queue.{ready, park, lock, condition}
 use Rattle.model.specs.Field.{Field, Fields, put, priorities}
-use Rattle.model.specs.Field.Field.{clock, running, priority, armed, timer, failed, holder, wakeup}
+use Rattle.model.specs.Field.Field.{clock, running, priority, armed, timer, failed, abort, holder, wakeup, abortable}
 use Rattle.model.specs.Rules.{when, choose, nakedly, decide, startCode, fresh}
 use Rattle.model.specs.Machine.{Machine, State, model, fieldsOf, start, step, after, answers}
 use Rattle.model.specs.Ledger.{ledger, reading}
@@ -295,6 +295,91 @@ howMany M = play M (sized 5 1 1 1) (3 ∷ 1 ∷ 3 ∷ 5 ∷ 2 ∷ [])
     ((ready, 4 ∷ []) ∷ (lock 1, []) ∷ (condition 1, 5 ∷ 1 ∷ 3 ∷ 2 ∷ []) ∷ [])
     ((running, 4) ∷ (holder 1, 0) ∷ [])
 
+-- Abort wakes a process off an abortable condition, first there or not, and sets the bit alone off another; SetAbortable moves nobody; who wakes keeps its abort
+abbrev aborts : Machine → Row
+aborts M = play M (sized 3 1 2 0) (3 ∷ 3 ∷ 3 ∷ [])
+    (refuses (Abort (record { 0 = 0 })) 7
+    ∷ refuses (Abort (record { 0 = 4 })) 7
+    ∷ refuses (SetAbortable 0 1) 7
+    ∷ refuses (SetAbortable 3 1) 7
+    ∷ refuses (SetAbortable 1 2) 7
+    ∷ gives (SetAbortable 1 1) 0 1 0 0 0 0
+    ∷ gives (Enter 1) 0 1 0 1 0 0
+    ∷ gives (Wait 1 1 (record { 0 = 9 })) 0 2 0 1 0 0
+    ∷ gives (Enter 1) 0 2 0 1 0 0
+    ∷ gives (Wait 1 2 (record { 0 = 0 })) 0 3 0 1 0 0
+    ∷ gives (Abort (record { 0 = 2 })) 0 3 0 0 0 0
+    ∷ gives (Abort (record { 0 = 1 })) 0 3 0 0 1 0
+    ∷ gives (Enter 1) 0 3 0 1 0 0
+    ∷ gives (Wait 1 2 (record { 0 = 4 })) 0 1 0 1 0 1
+    ∷ gives (SetAbortable 2 1) 0 1 0 0 0 0
+    ∷ gives (Abort (record { 0 = 3 })) 0 1 0 0 1 0
+    ∷ gives (Notify 2) 0 1 0 0 1 0
+    ∷ [])
+    ((ready, 1 ∷ 3 ∷ 2 ∷ []) ∷ (condition 1, []) ∷ (condition 2, []) ∷ [])
+    ((running, 1) ∷ (abort 1, 1) ∷ (abort 2, 1) ∷ (abort 3, 1) ∷ (armed 1, 0) ∷ (armed 3, 0) ∷ (timer 1, 0) ∷ (timer 3, 0) ∷ (abortable 1, 1) ∷ (abortable 2, 1) ∷ (wakeup 1, 0) ∷ [])
+
+-- Abort at a lock, in a park and in ready sets the bit alone, as often as it comes; an alarm needs no running process
+abbrev abortsElsewhere : Machine → Row
+abortsElsewhere M = play M (sized 3 1 1 1) (3 ∷ 3 ∷ 3 ∷ [])
+    (gives (SetAbortable 1 1) 0 1 0 0 0 0
+    ∷ gives (Enter 1) 0 1 0 1 0 0
+    ∷ gives (Requeue 0 0 (record { 0 = 1 })) 0 2 0 0 0 0
+    ∷ gives (Enter 1) 0 3 0 0 0 0
+    ∷ gives (Abort (record { 0 = 2 })) 0 3 0 0 0 0
+    ∷ gives (Requeue 0 1 (record { 0 = 3 })) 0 1 0 0 0 0
+    ∷ gives (Abort (record { 0 = 3 })) 0 1 0 0 0 0
+    ∷ gives (Abort (record { 0 = 1 })) 0 1 0 0 0 0
+    ∷ gives (Requeue 0 1 (record { 0 = 1 })) 0 0 0 0 0 0
+    ∷ gives (Abort (record { 0 = 1 })) 0 0 0 0 0 0
+    ∷ gives (SetAbortable 1 0) 0 0 0 0 0 0
+    ∷ refuses (Reenter 9 9) 6
+    ∷ [])
+    ((ready, []) ∷ (lock 1, 2 ∷ []) ∷ (park 1, 3 ∷ 1 ∷ []) ∷ [])
+    ((running, 0) ∷ (abort 1, 1) ∷ (abort 2, 1) ∷ (abort 3, 1) ∷ (failed 2, 1) ∷ (holder 1, 1) ∷ (abortable 1, 0) ∷ [])
+
+-- a Wait over abort leaves the lock, and wakeup and abort as they were; Reenter is Enter over a condition that is not abortable, has 8 before abort,
+-- and over an abortable one clears abort, takes no lock and has mark 2, once
+abbrev calledOffWait : Machine → Row
+calledOffWait M = play M (sized 3 1 2 0) (2 ∷ 2 ∷ 2 ∷ [])
+    (gives (SetAbortable 1 1) 0 1 0 0 0 0
+    ∷ gives (Abort (record { 0 = 1 })) 0 1 0 0 0 0
+    ∷ gives (Naked 1) 0 1 0 1 0 0
+    ∷ gives (Enter 1) 0 1 0 1 0 0
+    ∷ gives (Requeue 0 0 (record { 0 = 1 })) 0 2 0 0 0 0
+    ∷ gives (Enter 1) 0 3 0 0 0 0
+    ∷ gives (Requeue 0 0 (record { 0 = 3 })) 0 1 0 0 0 0
+    ∷ gives (Wait 1 1 (record { 0 = 5 })) 0 1 0 0 1 0
+    ∷ refuses (Reenter 0 1) 7
+    ∷ refuses (Reenter 2 1) 7
+    ∷ refuses (Reenter 1 0) 7
+    ∷ refuses (Reenter 1 3) 7
+    ∷ gives (Reenter 1 2) 0 1 0 1 0 0
+    ∷ refuses (Reenter 1 1) 8
+    ∷ gives (Exit 1) 0 1 0 0 0 0
+    ∷ gives (Reenter 1 1) 0 1 0 2 0 0
+    ∷ gives (Reenter 1 1) 0 1 0 1 0 0
+    ∷ [])
+    ((ready, 1 ∷ 3 ∷ 2 ∷ []) ∷ (lock 1, []) ∷ (condition 1, []) ∷ [])
+    ((running, 1) ∷ (holder 1, 1) ∷ (abort 1, 0) ∷ (wakeup 1, 1) ∷ (armed 1, 0) ∷ (timer 1, 0) ∷ (failed 2, 1) ∷ [])
+
+-- a Reenter of a locked lock queues as Enter does, told how many are ahead, and keeps abort until the lock is free
+abbrev reenterLocked : Machine → Row
+reenterLocked M = play M (sized 3 1 1 0) (2 ∷ 2 ∷ 2 ∷ [])
+    (gives (SetAbortable 1 1) 0 1 0 0 0 0
+    ∷ gives (Enter 1) 0 1 0 1 0 0
+    ∷ gives (Requeue 0 0 (record { 0 = 1 })) 0 2 0 0 0 0
+    ∷ gives (Abort (record { 0 = 2 })) 0 2 0 0 0 0
+    ∷ gives (Abort (record { 0 = 3 })) 0 2 0 0 0 0
+    ∷ gives (Reenter 1 1) 0 3 0 0 0 0
+    ∷ gives (Reenter 1 1) 0 1 0 0 0 1
+    ∷ gives (Exit 1) 0 1 0 0 1 0
+    ∷ gives (Requeue 0 0 (record { 0 = 1 })) 0 2 1 0 0 0
+    ∷ gives (Reenter 1 1) 0 2 0 2 0 0
+    ∷ [])
+    ((ready, 2 ∷ 1 ∷ []) ∷ (lock 1, 3 ∷ []) ∷ [])
+    ((running, 2) ∷ (holder 1, 0) ∷ (abort 1, 0) ∷ (abort 2, 0) ∷ (abort 3, 1) ∷ (failed 3, 1) ∷ [])
+
 -- Start's codes at the edges of each count, and with two faults at once: 2 before 3 before 4
 abbrev starting : Row
 starting = record {
@@ -326,6 +411,10 @@ scripts M =
     ∷ newcomer M
     ∷ roundClock M
     ∷ howMany M
+    ∷ aborts M
+    ∷ abortsElsewhere M
+    ∷ calledOffWait M
+    ∷ reenterLocked M
     ∷ []
 
 -- the scripts and Start's codes hold of both machines

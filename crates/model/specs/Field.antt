@@ -8,9 +8,9 @@ use Rattle.model.specs.Queue.{changed}
 -- two numbers of the state itself; then those of a process, of a lock, of a condition
 pub data Field : Type 0 where
   clock running : Field
-  priority armed timer failed : ℕ → Field
+  priority armed timer failed abort : ℕ → Field
   holder : ℕ → Field
-  wakeup : ℕ → Field
+  wakeup abortable : ℕ → Field
   deriving Discrete as Field-discrete
 
 -- a number for each field; a bit is 0 or 1

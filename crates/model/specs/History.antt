@@ -1,4 +1,4 @@
--- What demand 3 says of states: a history is an accepted Start and then any list of the nine calls, refused ones among them. Assumes nothing.
+-- What demand 3 says of states: a history is an accepted Start and then any list of the twelve calls, refused ones among them. Assumes nothing.
 use Prim.Native.Nat.{ℕ, _+_}
 use mathlib.Core.Path.{_≡_}
 use mathlib.Core.Logic.{_≢_, _↔_}
@@ -7,7 +7,7 @@ use mathlib.Core.List.{List, [], _∷_}
 use lib.Dec.{eqb}
 use Rattle.model.specs.declared.Shape.{Shape}
 use Rattle.model.specs.declared.Call.{Call}
-use Rattle.model.specs.declared.Call.the-variants.{Enter, Exit, Wait, Notify, Broadcast, Naked, Requeue, SetPriority, Tick}
+use Rattle.model.specs.declared.Call.the-variants.{Enter, Exit, Wait, Notify, Broadcast, Naked, Requeue, SetPriority, Tick, Abort, SetAbortable, Reenter}
 use Rattle.model.specs.declared.Answer.{Answer}
 use Rattle.model.specs.Queue.{Queue, inside, anyOf, bit, same, exists, count, first, All}
 use Rattle.model.specs.Queue.Queue.{ready, condition}
@@ -19,7 +19,7 @@ use Rattle.model.specs.Valid.{Valid}
 
 -- ---- entries and leavings of a lock
 
--- an entry of lock l is an Enter of it with mark 1
+-- an entry of lock l is an Enter or a Reenter of it with mark 1
 abbrev pub isEntry : ℕ → Call → Answer → Bool
 isEntry l (Enter j) a = eqb j l && eqb (a .mark) 1
 isEntry l (Exit j) a = false
@@ -30,6 +30,9 @@ isEntry l (Naked c) a = false
 isEntry l (Requeue s d p) a = false
 isEntry l (SetPriority v) a = false
 isEntry l Tick a = false
+isEntry l (Abort p) a = false
+isEntry l (SetAbortable c v) a = false
+isEntry l (Reenter j c) a = eqb j l && eqb (a .mark) 1
 
 -- a leaving is an accepted Exit or Wait that names it
 abbrev pub isLeaving : ℕ → Call → Answer → Bool
@@ -42,6 +45,9 @@ isLeaving l (Naked c) a = false
 isLeaving l (Requeue s d p) a = false
 isLeaving l (SetPriority v) a = false
 isLeaving l Tick a = false
+isLeaving l (Abort p) a = false
+isLeaving l (SetAbortable c v) a = false
+isLeaving l (Reenter j c) a = false
 
 -- how many of the calls are so answered
 abbrev pub tally : (Call → Answer → Bool) → List Call → List Answer → ℕ

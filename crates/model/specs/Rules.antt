@@ -1,4 +1,4 @@
--- The rules of Start and the nine calls, as 01's section "Calls" writes them and 02 changes them, with each call's codes in the order in which
+-- The rules of Start and the twelve calls, as 01's section "Calls" writes them and 02 changes them, with each call's codes in the order in which
 -- they are listed.
 -- They read the fields and the queues before the call and say what is to be done. Code 1 (the area is not sound) and Start's code 5
 -- (the area is too short) belong to the words, and dispatch, retry and moved to all calls alike. Assumes nothing.
@@ -9,11 +9,11 @@ use lib.Dec.{eqb, ltb}
 use lib.ListN.{length, getD}
 use Rattle.model.specs.declared.Shape.{Shape}
 use Rattle.model.specs.declared.Call.{Call}
-use Rattle.model.specs.declared.Call.the-variants.{Enter, Exit, Wait, Notify, Broadcast, Naked, Requeue, SetPriority, Tick}
-use Rattle.model.specs.Queue.{Queue, Note, outside, inside, bit, upTo, member, firstOnly, filter, toReady}
+use Rattle.model.specs.declared.Call.the-variants.{Enter, Exit, Wait, Notify, Broadcast, Naked, Requeue, SetPriority, Tick, Abort, SetAbortable, Reenter}
+use Rattle.model.specs.Queue.{Queue, Note, outside, inside, anyOf, bit, upTo, member, firstOnly, filter, toReady}
 use Rattle.model.specs.Queue.Queue.{ready, park, lock, condition}
 use Rattle.model.specs.Field.{Fields, put, some}
-use Rattle.model.specs.Field.Field.{clock, running, priority, armed, timer, failed, holder, wakeup}
+use Rattle.model.specs.Field.Field.{clock, running, priority, armed, timer, failed, abort, holder, wakeup, abortable}
 
 -- ---- what a call comes to
 
@@ -64,6 +64,25 @@ unfoldable pub nakedly : ℕ → List ℕ → Fields → Effect
 nakedly c [] s = accept (put (wakeup c) 1 s) [] 1
 nakedly c (p ∷ ps) s = wake (p ∷ []) s
 
+-- who runs is called off condition c: its abort is set, and the condition is abortable
+abbrev pub calledOff : Fields → ℕ → Bool
+calledOff s c = some (s (abort (s running))) && some (s (abortable c))
+
+-- p waits on a condition that is abortable
+abbrev pub abortably : Shape → Fields → (Queue → List ℕ) → ℕ → Bool
+abortably n s qs p = anyOf (n .conditions) (λ c. some (s (abortable c)) && member p (qs (condition c)))
+
+-- then p, else nobody
+abbrev pub called : Shape → Fields → (Queue → List ℕ) → ℕ → List ℕ
+called n s qs p = cond (abortably n s qs p) (p ∷ []) []
+
+-- past its codes, Enter takes a free lock; at a locked one who runs becomes failed and queues
+abbrev pub enters : ℕ → Fields → Effect
+enters l s =
+    choose (eqb (s (holder l)) 0)
+    (accept (put (holder l) (s running) s) [] 1)
+    (accept (put (failed (s running)) 1 s) ((s running, lock l) ∷ []) 0)
+
 -- Requeue's numbers: 0 is ready, others are parks
 abbrev pub readyOrPark : ℕ → Queue
 readyOrPark k = cond (eqb k 0) ready (park k)
@@ -76,16 +95,14 @@ rings s now p = some (s (armed p)) && eqb (s (timer p)) now
 abbrev pub due : Shape → Fields → ℕ → List ℕ
 due n s now = filter (rings s now) (upTo (n .processes))
 
--- ---- the nine calls
+-- ---- the twelve calls
 
 unfoldable pub decide : Shape → Fields → (Queue → List ℕ) → Call → Effect
 decide n s qs (Enter l) =
     when (eqb (s running) 0) 6
     (when (outside (n .locks) l) 7
     (when (eqb (s (holder l)) (s running)) 8
-    (choose (eqb (s (holder l)) 0)
-    (accept (put (holder l) (s running) s) [] 1)
-    (accept (put (failed (s running)) 1 s) ((s running, lock l) ∷ []) 0))))
+    (enters l s)))
 decide n s qs (Exit l) =
     when (eqb (s running) 0) 6
     (when (outside (n .locks) l) 7
@@ -95,9 +112,11 @@ decide n s qs (Wait l c t) =
     when (eqb (s running) 0) 6
     (when (outside (n .locks) l || outside (n .conditions) c) 7
     (when (not (eqb (s (holder l)) (s running))) 9
+    (choose (calledOff s c)
+    (accept (put (holder l) 0 s) (released qs l) 0)
     (choose (some (s (wakeup c)))
     (accept (put (wakeup c) 0 (put (holder l) 0 s)) (released qs l) 0)
-    (accept (arm (s running) (t .0) (put (holder l) 0 s)) (released qs l ++ ((s running, condition c) ∷ [])) 1))))
+    (accept (arm (s running) (t .0) (put (holder l) 0 s)) (released qs l ++ ((s running, condition c) ∷ [])) 1)))))
 decide n s qs (Notify c) =
     when (eqb (s running) 0) 6
     (when (outside (n .conditions) c) 7
@@ -120,6 +139,19 @@ decide n s qs (SetPriority v) =
 decide n s qs Tick =
     let now = (s clock + 1) % 65536 in
     wake (due n s now) (put clock now s)
+decide n s qs (Abort p) =
+    when (outside (n .processes) (p .0)) 7
+    (wake (called n s qs (p .0)) (put (abort (p .0)) 1 s))
+decide n s qs (SetAbortable c v) =
+    when (outside (n .conditions) c || ltb 1 v) 7
+    (accept (put (abortable c) v s) [] 0)
+decide n s qs (Reenter l c) =
+    when (eqb (s running) 0) 6
+    (when (outside (n .locks) l || outside (n .conditions) c) 7
+    (when (eqb (s (holder l)) (s running)) 8
+    (choose (eqb (s (holder l)) 0 && calledOff s c)
+    (accept (put (abort (s running)) 0 s) [] 2)
+    (enters l s))))
 
 -- ---- Start
 
@@ -146,5 +178,7 @@ fresh bytes (priority p) = getD (0 ∷ bytes) p 0
 fresh bytes (armed p) = 0
 fresh bytes (timer p) = 0
 fresh bytes (failed p) = 0
+fresh bytes (abort p) = 0
 fresh bytes (holder l) = 0
 fresh bytes (wakeup c) = 0
+fresh bytes (abortable c) = 0

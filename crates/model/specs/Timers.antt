@@ -6,7 +6,7 @@ use mathlib.Core.List.{List, [], _∷_, _++_, map}
 use lib.Dec.{eqb}
 use Rattle.model.specs.declared.Shape.{Shape}
 use Rattle.model.specs.declared.Call.{Call}
-use Rattle.model.specs.declared.Call.the-variants.{Enter, Exit, Wait, Notify, Broadcast, Naked, Requeue, SetPriority, Tick}
+use Rattle.model.specs.declared.Call.the-variants.{Enter, Exit, Wait, Notify, Broadcast, Naked, Requeue, SetPriority, Tick, Abort, SetAbortable, Reenter}
 use Rattle.model.specs.Queue.{bit, upTo, filter}
 use Rattle.model.specs.Field.{some}
 use Rattle.model.specs.Field.Field.{clock, armed, timer}
@@ -28,6 +28,9 @@ isTick (Naked c) = false
 isTick (Requeue a b p) = false
 isTick (SetPriority v) = false
 isTick Tick = true
+isTick (Abort p) = false
+isTick (SetAbortable c v) = false
+isTick (Reenter l c) = false
 
 -- how many Ticks there are among calls
 abbrev pub ticksIn : List Call → ℕ

@@ -9,7 +9,7 @@ use Rattle.model.specs.declared.Shape.{Shape}
 use Rattle.model.specs.Queue.{Queue, inside, bit, same, exists, member, count, first, Falling}
 use Rattle.model.specs.Queue.Queue.{ready, lock, condition}
 use Rattle.model.specs.Field.{Field, some, priorities}
-use Rattle.model.specs.Field.Field.{clock, running, priority, armed, timer, failed, holder, wakeup}
+use Rattle.model.specs.Field.Field.{clock, running, priority, armed, timer, failed, abort, holder, wakeup, abortable}
 use Rattle.model.specs.Rules.{counted}
 use Rattle.model.specs.Machine.{State, model, waiting}
 
@@ -25,8 +25,10 @@ room n (priority p) = each (n .processes) p 8
 room n (armed p) = each (n .processes) p 2
 room n (timer p) = each (n .processes) p 65536
 room n (failed p) = each (n .processes) p 2
+room n (abort p) = each (n .processes) p 2
 room n (holder l) = each (n .locks) l (suc (n .processes))
 room n (wakeup c) = each (n .conditions) c 2
+room n (abortable c) = each (n .conditions) c 2
 
 -- the clauses that hold in the midst of a call too
 pub record Placed (n : Shape) (s : State model) : Type 0 where

@@ -17,7 +17,7 @@ pub struct Process(pub u16);
 // A priority, 0 to 7; 7 is the highest.
 pub struct Priority(pub u16);
 
-// The nine calls that change an area, each with its numbers.
+// The twelve calls that change an area, each with its numbers.
 pub enum Call {
     Enter {
         lock: u16,
@@ -48,9 +48,20 @@ pub enum Call {
         priority: Priority,
     },
     Tick,
+    Abort {
+        process: Process,
+    },
+    SetAbortable {
+        condition: u16,
+        value: u16,
+    },
+    Reenter {
+        lock: u16,
+        condition: u16,
+    },
 }
 
-// What Start and each of the nine calls answer. Code 0 accepts; a refusal has zeros beside its code. The code stands amidst the others: four zeros side by side a compiler writes as one number, and then it takes every answer apart again.
+// What Start and each of the twelve calls answer. Code 0 accepts; a refusal has zeros beside its code. The code stands amidst the others: four zeros side by side a compiler writes as one number, and then it takes every answer apart again.
 pub struct Answer {
     pub running: u16,
     pub retry: u16,

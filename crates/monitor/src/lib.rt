@@ -7,7 +7,7 @@ use model::Report;
 use model::Ticks;
 use timers::Earliest;
 ghost use mathlib.Core.Path.{_≡_};
-ghost use Rattle.model.specs.declared.Call.the-variants.{Enter, Exit, Wait, Notify, Broadcast, Naked, Requeue, SetPriority, Tick};
+ghost use Rattle.model.specs.declared.Call.the-variants.{Enter, Exit, Wait, Notify, Broadcast, Naked, Requeue, SetPriority, Tick, Abort, SetAbortable, Reenter};
 ghost use Rattle.model.specs.Machine.{refusal};
 ghost use Rattle.monitor.specs.Calls.{Performs, ListsOn, TellsOn, SheetsOn, NearestOn};
 
@@ -47,7 +47,7 @@ pub fn wait(area: &mut [u16], lock: u16, condition: u16, ticks: Ticks) -> Answer
         return unsound();
     }
     let shape = area::shape_of(area);
-    locks::waits::wait(area, shape, lock, condition, ticks)
+    waits::wait(area, shape, lock, condition, ticks)
 }
 
 pub fn notify(area: &mut [u16], condition: u16) -> Answer
@@ -67,7 +67,7 @@ pub fn broadcast(area: &mut [u16], condition: u16) -> Answer
         return unsound();
     }
     let shape = area::shape_of(area);
-    wakes::broadcast(area, shape, condition)
+    broadcasts::broadcast(area, shape, condition)
 }
 
 pub fn naked(area: &mut [u16], condition: u16) -> Answer
@@ -107,10 +107,40 @@ pub fn tick(area: &mut [u16]) -> Answer
         return unsound();
     }
     let shape = area::shape_of(area);
-    wakes::clock::tick(area, shape)
+    broadcasts::clock::tick(area, shape)
 }
 
-// Any of the nine.
+pub fn abort(area: &mut [u16], process: Process) -> Answer
+    ensures { λ r. ⌜ Performs (Abort process) (now (area .entry)) (now (area .exit)) r ⌝ }
+{
+    if !sound::sound(area) {
+        return unsound();
+    }
+    let shape = area::shape_of(area);
+    wakes::aborts::abort(area, shape, process)
+}
+
+pub fn set_abortable(area: &mut [u16], condition: u16, value: u16) -> Answer
+    ensures { λ r. ⌜ Performs (SetAbortable condition value) (now (area .entry)) (now (area .exit)) r ⌝ }
+{
+    if !sound::sound(area) {
+        return unsound();
+    }
+    let shape = area::shape_of(area);
+    wakes::aborts::set_abortable(area, shape, condition, value)
+}
+
+pub fn reenter(area: &mut [u16], lock: u16, condition: u16) -> Answer
+    ensures { λ r. ⌜ Performs (Reenter lock condition) (now (area .entry)) (now (area .exit)) r ⌝ }
+{
+    if !sound::sound(area) {
+        return unsound();
+    }
+    let shape = area::shape_of(area);
+    locks::again::reenter(area, shape, lock, condition)
+}
+
+// Any of the twelve.
 pub fn perform(area: &mut [u16], call: Call) -> Answer
     ensures { λ r. ⌜ Performs call (now (area .entry)) (now (area .exit)) r ⌝ }
 {
@@ -132,6 +162,9 @@ pub fn perform(area: &mut [u16], call: Call) -> Answer
         } => requeue(area, source, destination, process),
         Call::SetPriority { priority } => set_priority(area, priority),
         Call::Tick => tick(area),
+        Call::Abort { process } => abort(area, process),
+        Call::SetAbortable { condition, value } => set_abortable(area, condition, value),
+        Call::Reenter { lock, condition } => reenter(area, lock, condition),
     }
 }
 

@@ -14,6 +14,7 @@ use Rattle.model.specs.Queue.Queue.{ready}
 use Rattle.model.specs.Field.Field.{priority}
 use Rattle.model.specs.Machine.{State, model}
 use Rattle.model.specs.Valid.{room, Placed}
+use Rattle.model.proofs.Fields.{put-own}
 use Rattle.model.proofs.Tests.{holds, fails, SameCase, same-case, same-yes, EqCase, eqb-case, PutCase, put-case, put-away, bit-small, denied}
 use Rattle.model.proofs.Lists.{SameOff, falling-remove, falling-insert, remove-absent, remove-member, insert-member, absent-count, count-remove-same, member-bit}
 use Rattle.model.proofs.Places as places
@@ -30,7 +31,7 @@ use Rattle.area.specs.Loose.{Loose}
 use Rattle.area.proofs.Stores.{alter-here, alter-own}
 use Rattle.area.proofs.Rings.{one-queue}
 use Rattle.moves.proofs.Loose.{loose-of, loose-relinked, alter-fields, loose-written, settled}
-use Rattle.moves.proofs.Shared.{put-own, going}
+use Rattle.moves.proofs.Shared.{going}
 
 module _ {n : Shape} {ws : List ℕ} {at-from at-to p waits : ℕ} (m : Moves n ws at-from at-to p waits) where
   pub move-waits : waits < 2
@@ -190,11 +191,11 @@ module _ {n : Shape} {ws : List ℕ} {at-from at-to p waits : ℕ} (m : Moves n 
 
   pub sent-own : {new : List ℕ} → Becomes n ws new (sent p (m .to) (with (priority p) own-rank (m .state))) → Becomes n ws new (sent p (m .to) (m .state))
   sent-own {new} b =
-      subst (λ (f : Fields). Becomes n ws new (record { fields = f; queues = move (priorities f) (m .state .queues) p (m .to) })) (put-own (priority p) (m .state .fields)) b
+      subst (λ (f : Fields). Becomes n ws new (record { fields = f; queues = move (priorities f) (m .state .queues) p (m .to) })) (put-own (priority p) _ (m .state .fields) refl) b
 
   pub arrived-own : {t k : ℕ} → Arrived p (sent p (m .to) (with (priority p) own-rank (m .state)) .queues (m .to)) t k → Arrived p (sent p (m .to) (m .state) .queues (m .to)) t k
   arrived-own {t} {k} A =
-      subst (λ (f : Fields). Arrived p (move (priorities f) (m .state .queues) p (m .to) (m .to)) t k) (put-own (priority p) (m .state .fields)) A
+      subst (λ (f : Fields). Arrived p (move (priorities f) (m .state .queues) p (m .to) (m .to)) t k) (put-own (priority p) _ (m .state .fields) refl) A
 
 -- ---- in ready, with another
 

@@ -13,6 +13,7 @@ use Rattle.model.specs.Queue.Queue.{ready}
 use Rattle.model.specs.Field.{Fields, put}
 use Rattle.model.specs.Field.Field.{running, failed}
 use Rattle.model.specs.Machine.{State, model, retry}
+use Rattle.model.proofs.Fields.{put-own}
 use Rattle.model.proofs.Tests.{EqCase, holds, fails, eqb-case, eqb-yes, inside-bounds}
 use Rattle.ring.specs.Ring.{Ring}
 use Rattle.area.specs.Layout.{recordsAt, at}
@@ -23,7 +24,6 @@ use Rattle.area.specs.Holds.{Holds, Becomes, with, dispatched}
 use Rattle.area.proofs.Stores.{load-at}
 use Rattle.area.proofs.Rings.{member-inside}
 use Rattle.area.proofs.Records.{part-lent, queue-ring}
-use Rattle.moves.proofs.Shared.{put-own}
 
 -- ---- a read
 
@@ -75,4 +75,4 @@ module _ {n : Shape} {ws : List ℕ} {s : State model} (H : Holds n ws s) where
   pub dispatch-kept : {r f : ℕ} {new : List ℕ} → r ≡ first (s .queues ready) → r ≢ 0 → f ≡ put running r (s .fields) (failed r) → f ≡ 0 → Becomes n ws new (with running r s) → (r ≡ first (s .queues ready)) × (f ≡ retry (s .queues ready) (s .fields)) × Becomes n ws new (dispatched s)
   dispatch-kept {r} {f} {new} e z g k b =
       let t : Fields = put running r (s .fields) in
-      dispatch-first e z g (subst (λ (u : Fields). Becomes n ws new (record { fields = u; queues = s .queues })) (sym (ap (λ (v : ℕ). put (failed r) v t) (sym k ∙ g) ∙ put-own (failed r) t)) b)
+      dispatch-first e z g (subst (λ (u : Fields). Becomes n ws new (record { fields = u; queues = s .queues })) (sym (ap (λ (v : ℕ). put (failed r) v t) (sym k ∙ g) ∙ put-own (failed r) _ t refl)) b)

@@ -1,18 +1,17 @@
 -- What several calls share: who runs stands in ready, a field takes a value, and a process on its way from one queue to another. Assumes nothing.
 use Prim.Native.Nat.{ℕ, _≤_, _<_}
 use native.Mathlib.Omega.{arith}
-use mathlib.Core.Path.{_≡_, refl, _∙_, fun-ext}
+use mathlib.Core.Path.{_≡_, refl, _∙_}
 use mathlib.Core.Logic.{_≢_}
 use mathlib.Core.Bool.{true}
 use mathlib.Core.List.{List}
 use Rattle.model.specs.declared.Shape.{Shape}
 use Rattle.model.specs.Queue.{Queue, bit, inside, exists, member, isCondition}
 use Rattle.model.specs.Queue.Queue.{ready}
-use Rattle.model.specs.Field.{Field, Fields, put}
+use Rattle.model.specs.Field.{Field}
 use Rattle.model.specs.Field.Field.{running}
 use Rattle.model.specs.Machine.{State, model}
 use Rattle.model.specs.Valid.{room, Valid}
-use Rattle.model.proofs.Tests.{holds, fails, PutCase, put-case}
 use Rattle.area.specs.declared.places.Place.{Place}
 use Rattle.area.specs.Layout.{at, Lies}
 use Rattle.area.specs.Layout.Part.{kept}
@@ -34,14 +33,6 @@ module _ {n : Shape} {s : State model} {r : ℕ} (e : r ≡ s .fields running) w
 
 pub taking : {n : Shape} (f : Field) {p : Place} {v : ℕ} → Lies n (kept f) p → plain f ≡ true → v < room n f → Takes n f p v
 taking f L e h = record { lies = L; free = e; fits = h }
-
--- the value that it has changes nothing
-pub put-own : (f : Field) (s : Fields) → put f (s f) s ≡ s
-put-own f s = fun-ext (λ g. go g (put-case f g))
-  where
-    go : (g : Field) → PutCase f g → put f (s f) s g ≡ s g
-    go g (holds e z) = rw (z, ← e)
-    go g (fails e z) = rw z
 
 -- ---- a process on its way from a queue to another
 

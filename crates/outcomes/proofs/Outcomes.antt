@@ -96,6 +96,10 @@ module _ {k r n i m j : ℕ} (q : CallingTwo r n i m j k) where
   pub two-second : k ≡ 0 → inside m j ≡ true
   two-second z = ap not (or-split (outside n i) (outside m j) (neither z) .1)
 
+  -- of the first alone
+  pub two-calling : k ≡ 0 → Calling r n i k
+  two-calling z = record { code = z ∙ sym (rw (eqb-no r 0 (two-runs z), or-split (outside n i) (outside m j) (neither z) .0)) }
+
 -- which of the two numbers it is
 pub two-by-first : {r n i k : ℕ} → Calling r n i k → (m j : ℕ) → k ≢ 0 → CallingTwo r n i m j k
 two-by-first {r} {n} {i} {k} q m j z = record { code = go (eqb r 0) (outside n i) (q .code) }

@@ -7,10 +7,11 @@ use mathlib.Core.Logic.{_≢_}
 use mathlib.Core.Bool.{Bool, true, false, true≢false}
 use mathlib.Core.List.{List, [], _∷_, _++_, map, append-nil}
 use borrow.Author.Tests.{lt-ltb, le-ltb, ne-eqb}
+use lib.Dec.{eqb}
 use lib.ListN.{length, getD, take, drop, set, length-append, length-drop}
 use lib.Seq.{take-append-seam, drop-cons, append-snoc, set-append-seam, getD-drop, drop-drop}
 use Rattle.model.specs.declared.Call.{Call}
-use Rattle.model.specs.declared.Call.the-variants.{Enter, Exit, Wait, Notify, Broadcast, Naked, Requeue, SetPriority, Tick}
+use Rattle.model.specs.declared.Call.the-variants.{Enter, Exit, Wait, Notify, Broadcast, Naked, Requeue, SetPriority, Tick, Abort, SetAbortable, Reenter}
 use Rattle.model.specs.declared.Answer.{Answer}
 use Rattle.model.specs.Machine.{fieldsOf}
 use Rattle.monitor.specs.Calls.{Performs}
@@ -145,11 +146,23 @@ module _ {k : ℕ} {r : Record} (a b c : ℕ) where
     unfolding operation pick
     op-tick e n h = from 8 e (h ∙ ap (λ (u : Bool). made u Tick) n)
 
--- none of the nine
-pub op-none : {k : ℕ} (a b c : ℕ) → k ≢ 0 → k ≢ 1 → k ≢ 2 → k ≢ 3 → k ≢ 4 → k ≢ 5 → k ≢ 6 → k ≢ 7 → k ≢ 8 → Malformed ≡ operation k a b c
+    pub op-abort : k ≡ 9 → t ≡ none2 b c → r ≡ made t (Abort (record { 0 = a })) → r ≡ operation k a b c
+    unfolding operation pick
+    op-abort e n h = from 9 e (h ∙ ap (λ (u : Bool). made u (Abort (record { 0 = a }))) n)
+
+    pub op-set-abortable : k ≡ 10 → t ≡ eqb c 0 → r ≡ made t (SetAbortable a b) → r ≡ operation k a b c
+    unfolding operation pick
+    op-set-abortable e n h = from 10 e (h ∙ ap (λ (u : Bool). made u (SetAbortable a b)) n)
+
+    pub op-reenter : k ≡ 11 → t ≡ eqb c 0 → r ≡ made t (Reenter a b) → r ≡ operation k a b c
+    unfolding operation pick
+    op-reenter e n h = from 11 e (h ∙ ap (λ (u : Bool). made u (Reenter a b)) n)
+
+-- none of the twelve
+pub op-none : {k : ℕ} (a b c : ℕ) → k ≢ 0 → k ≢ 1 → k ≢ 2 → k ≢ 3 → k ≢ 4 → k ≢ 5 → k ≢ 6 → k ≢ 7 → k ≢ 8 → k ≢ 9 → k ≢ 10 → k ≢ 11 → Malformed ≡ operation k a b c
 unfolding operation pick
-op-none {k} a b c h0 h1 h2 h3 h4 h5 h6 h7 h8 =
-    rw (ne-eqb k 0 h0, ne-eqb k 1 h1, ne-eqb k 2 h2, ne-eqb k 3 h3, ne-eqb k 4 h4, ne-eqb k 5 h5, ne-eqb k 6 h6, ne-eqb k 7 h7, ne-eqb k 8 h8) refl
+op-none {k} a b c h0 h1 h2 h3 h4 h5 h6 h7 h8 h9 h10 h11 =
+    rw (ne-eqb k 0 h0, ne-eqb k 1 h1, ne-eqb k 2 h2, ne-eqb k 3 h3, ne-eqb k 4 h4, ne-eqb k 5 h5, ne-eqb k 6 h6, ne-eqb k 7 h7, ne-eqb k 8 h8, ne-eqb k 9 h9, ne-eqb k 10 h10, ne-eqb k 11 h11) refl
 
 -- ---- the loop
 

@@ -7,7 +7,7 @@ use lib.Dec.{eqb, ltb}
 use lib.ListN.{length, getD, take, drop, set}
 use Rattle.model.specs.declared.Shape.{Shape}
 use Rattle.model.specs.declared.Call.{Call}
-use Rattle.model.specs.declared.Call.the-variants.{Enter, Exit, Wait, Notify, Broadcast, Naked, Requeue, SetPriority, Tick}
+use Rattle.model.specs.declared.Call.the-variants.{Enter, Exit, Wait, Notify, Broadcast, Naked, Requeue, SetPriority, Tick, Abort, SetAbortable, Reenter}
 use Rattle.model.specs.declared.Answer.{Answer}
 use Rattle.start.specs.Start.{Starts}
 use Rattle.monitor.specs.Calls.{Performs}
@@ -34,7 +34,7 @@ pick false x y = y
 abbrev pub made : Bool → Call → Record
 made t c = pick t (Made c) Malformed
 
--- an operation with its three arguments: 01's order of the calls, from 0
+-- an operation with its three arguments: 01's order of the calls, from 0, and then 02's
 unfoldable pub operation : ℕ → ℕ → ℕ → ℕ → Record
 operation k a b c =
     pick (eqb k 0) (made (none2 b c) (Enter a))
@@ -46,7 +46,10 @@ operation k a b c =
     (pick (eqb k 6) (Made (Requeue a b (record { 0 = c })))
     (pick (eqb k 7) (made (none2 b c) (SetPriority (record { 0 = a })))
     (pick (eqb k 8) (made (none3 a b c) Tick)
-    Malformed))))))))
+    (pick (eqb k 9) (made (none2 b c) (Abort (record { 0 = a })))
+    (pick (eqb k 10) (made (eqb c 0) (SetAbortable a b))
+    (pick (eqb k 11) (made (eqb c 0) (Reenter a b))
+    Malformed)))))))))))
 
 -- four words: the operation in the first four bits of the first word, whose other bits are 0, and three arguments
 unfoldable pub recorded : ℕ → ℕ → ℕ → ℕ → Record

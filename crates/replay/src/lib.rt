@@ -93,6 +93,32 @@ fn operate(k: u16, a: u16, b: u16, c: u16) -> Record
     if k == 8 {
         return made_if(no_three(a, b, c), Call::Tick);
     }
+    if k == 9 {
+        return made_if(
+            clear,
+            Call::Abort {
+                process: Process(a),
+            },
+        );
+    }
+    if k == 10 {
+        return made_if(
+            c == 0,
+            Call::SetAbortable {
+                condition: a,
+                value: b,
+            },
+        );
+    }
+    if k == 11 {
+        return made_if(
+            c == 0,
+            Call::Reenter {
+                lock: a,
+                condition: b,
+            },
+        );
+    }
     Record::Malformed
 }
 

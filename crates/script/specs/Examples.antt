@@ -5,7 +5,7 @@ use mathlib.Core.Path.{_≡_, refl}
 use mathlib.Core.List.{List, [], _∷_, map}
 use Rattle.model.specs.Text.{bytesOf}
 use Rattle.model.specs.declared.Shape.{Shape}
-use Rattle.model.specs.declared.Call.the-variants.{Enter, Exit, Wait, Notify, Broadcast, Naked, Requeue, SetPriority, Tick}
+use Rattle.model.specs.declared.Call.the-variants.{Enter, Exit, Wait, Notify, Broadcast, Naked, Requeue, SetPriority, Tick, Abort, SetAbortable, Reenter}
 use Rattle.script.specs.Line.{Meaning, meaning}
 use Rattle.script.specs.Line.Meaning.{call, start, none}
 
@@ -33,6 +33,9 @@ calls : Holds
     ∷ ("requeue 0 8 1023", call (Requeue 0 8 (record { 0 = 1023 })))
     ∷ ("setpriority 7", call (SetPriority (record { 0 = 7 })))
     ∷ ("tick", call Tick)
+    ∷ ("abort 3", call (Abort (record { 0 = 3 })))
+    ∷ ("setabortable 2 1", call (SetAbortable 2 1))
+    ∷ ("reenter 1 2", call (Reenter 1 2))
     ∷ ("enter 0001", call (Enter 1))
     ∷ ("enter 0000000001", call (Enter 1))
     ∷ ("enter 65535", call (Enter 65535))
@@ -61,6 +64,12 @@ no-calls : Holds
     ∷ ("tick ", none)
     ∷ ("tick 0", none)
     ∷ ("wait 1 1", none)
+    ∷ ("abort", none)
+    ∷ ("abort 1 1", none)
+    ∷ ("setabortable 1", none)
+    ∷ ("set abortable 1 1", none)
+    ∷ ("reenter 1", none)
+    ∷ ("reenter 1 1 1", none)
     ∷ ("wait 1 1 0 0", none)
     ∷ ("start 3 1 1", none)
     ∷ ("start 3 1 1 0 2 5 256", none)

@@ -10,9 +10,9 @@ use Rattle.model.specs.declared.Call.{Call}
 use Rattle.model.specs.declared.Call.the-variants as calls
 use Rattle.words.specs.Words.{fields, same, number, within}
 use Rattle.script.specs.declared.Name.{Name}
-use Rattle.script.specs.declared.Name.the-variants.{Start, Enter, Exit, Wait, Notify, Broadcast, Naked, Requeue, SetPriority, Tick, Unknown}
+use Rattle.script.specs.declared.Name.the-variants.{Start, Enter, Exit, Wait, Notify, Broadcast, Naked, Requeue, SetPriority, Tick, Abort, SetAbortable, Reenter, Unknown}
 
--- what a line is: one of the nine calls, Start with its shape and its bytes, or neither
+-- what a line is: one of the twelve calls, Start with its shape and its bytes, or neither
 pub data Meaning : Type 0 where
   call : Call → Meaning
   start : Shape → List ℕ → Meaning
@@ -21,6 +21,15 @@ pub data Meaning : Type 0 where
 -- ---- names
 
 -- each name in lower case
+abbrev pub laterName : List ℕ → Name
+laterName w =
+    cond (same w (bytesOf "requeue")) Requeue
+    (cond (same w (bytesOf "setpriority")) SetPriority
+    (cond (same w (bytesOf "tick")) Tick
+    (cond (same w (bytesOf "abort")) Abort
+    (cond (same w (bytesOf "setabortable")) SetAbortable
+    (cond (same w (bytesOf "reenter")) Reenter Unknown)))))
+
 abbrev pub nameOf : List ℕ → Name
 nameOf w =
     cond (same w (bytesOf "start")) Start
@@ -29,14 +38,11 @@ nameOf w =
     (cond (same w (bytesOf "wait")) Wait
     (cond (same w (bytesOf "notify")) Notify
     (cond (same w (bytesOf "broadcast")) Broadcast
-    (cond (same w (bytesOf "naked")) Naked
-    (cond (same w (bytesOf "requeue")) Requeue
-    (cond (same w (bytesOf "setpriority")) SetPriority
-    (cond (same w (bytesOf "tick")) Tick Unknown)))))))))
+    (cond (same w (bytesOf "naked")) Naked (laterName w)))))))
 
 -- ---- calls
 
--- a call without a number, with one, with three
+-- a call without a number, with one, with two, with three
 abbrev pub alone : Call → List ℕ → Meaning
 alone c [] = call c
 alone c (x ∷ xs) = none
@@ -45,6 +51,12 @@ abbrev pub one : (ℕ → Call) → List ℕ → Meaning
 one f [] = none
 one f (x ∷ []) = call (f x)
 one f (x ∷ y ∷ zs) = none
+
+abbrev pub two : (ℕ → ℕ → Call) → List ℕ → Meaning
+two f [] = none
+two f (x ∷ []) = none
+two f (x ∷ y ∷ []) = call (f x y)
+two f (x ∷ y ∷ z ∷ zs) = none
 
 abbrev pub three : (ℕ → ℕ → ℕ → Call) → List ℕ → Meaning
 three f [] = none
@@ -73,6 +85,9 @@ said Naked ns = one calls.Naked ns
 said Requeue ns = three (λ s d p. calls.Requeue s d (record { 0 = p })) ns
 said SetPriority ns = one (λ v. calls.SetPriority (record { 0 = v })) ns
 said Tick ns = alone calls.Tick ns
+said Abort ns = one (λ p. calls.Abort (record { 0 = p })) ns
+said SetAbortable ns = two calls.SetAbortable ns
+said Reenter ns = two calls.Reenter ns
 said Unknown ns = none
 
 -- the first word is the name, and the others are its numbers, each at most 65,535

@@ -3,7 +3,7 @@ ghost use mathlib.Core.Path.{_≡_};
 ghost use Prim.Native.Nat.{_≤_};
 ghost use mathlib.Core.List.{_∷_, []};
 ghost use lib.ListN.{length};
-ghost use Rattle.script.specs.Line.{nameOf, started, said, meaning};
+ghost use Rattle.script.specs.Line.{laterName, nameOf, started, said, meaning};
 ghost use Rattle.script.specs.Read.{Calls, Tells};
 use model::Call;
 use model::Priority;
@@ -24,6 +24,9 @@ pub enum Name {
     Requeue,
     SetPriority,
     Tick,
+    Abort,
+    SetAbortable,
+    Reenter,
     Unknown,
 }
 
@@ -32,6 +35,31 @@ pub enum Parsed {
     Call(Call),
     Start(Shape, usize),
     Nothing,
+}
+
+// The name that a word is, of those from Requeue on.
+fn later_name(word: &[u8]) -> Name
+    ensures { λ r. ⌜ r ≡ laterName (now (word .entry)) ⌝ }
+{
+    if words::equal(word, b"requeue") {
+        return Name::Requeue;
+    }
+    if words::equal(word, b"setpriority") {
+        return Name::SetPriority;
+    }
+    if words::equal(word, b"tick") {
+        return Name::Tick;
+    }
+    if words::equal(word, b"abort") {
+        return Name::Abort;
+    }
+    if words::equal(word, b"setabortable") {
+        return Name::SetAbortable;
+    }
+    if words::equal(word, b"reenter") {
+        return Name::Reenter;
+    }
+    Name::Unknown
 }
 
 // The name that a word is.
@@ -59,16 +87,7 @@ fn name_of(word: &[u8]) -> Name
     if words::equal(word, b"naked") {
         return Name::Naked;
     }
-    if words::equal(word, b"requeue") {
-        return Name::Requeue;
-    }
-    if words::equal(word, b"setpriority") {
-        return Name::SetPriority;
-    }
-    if words::equal(word, b"tick") {
-        return Name::Tick;
-    }
-    Name::Unknown
+    later_name(word)
 }
 
 // The call of a name without a number.
@@ -93,6 +112,26 @@ fn call_of_one(name: Name, x: u16) -> Parsed
         Name::Naked => Parsed::Call(Call::Naked { condition: x }),
         Name::SetPriority => Parsed::Call(Call::SetPriority {
             priority: Priority(x),
+        }),
+        Name::Abort => Parsed::Call(Call::Abort {
+            process: Process(x),
+        }),
+        _ => Parsed::Nothing,
+    }
+}
+
+// The call of a name with two numbers.
+fn call_of_two(name: Name, x: u16, y: u16) -> Parsed
+    ensures { λ r. ⌜ Calls r (said name (x ∷ y ∷ [])) ⌝ }
+{
+    match name {
+        Name::SetAbortable => Parsed::Call(Call::SetAbortable {
+            condition: x,
+            value: y,
+        }),
+        Name::Reenter => Parsed::Call(Call::Reenter {
+            lock: x,
+            condition: y,
         }),
         _ => Parsed::Nothing,
     }
@@ -146,11 +185,11 @@ fn call_of(name: Name, numbers: &[u16], bytes: &mut [u8]) -> Parsed
     if numbers.len() == 1 {
         return call_of_one(name, numbers[0]);
     }
+    if numbers.len() == 2 {
+        return call_of_two(name, numbers[0], numbers[1]);
+    }
     if numbers.len() == 3 {
         return call_of_three(name, numbers[0], numbers[1], numbers[2]);
-    }
-    if numbers.len() < 4 {
-        return Parsed::Nothing;
     }
     match name {
         Name::Start => start_of(numbers, bytes),

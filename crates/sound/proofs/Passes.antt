@@ -1,5 +1,5 @@
 -- A sound area passes: each clause of its soundness gives what one part of the check asks for. Assumes nothing.
-use Prim.Native.Nat.{ℕ, _/_, _%_, _≤_}
+use Prim.Native.Nat.{ℕ, _/_, _%_, _≤_, _<_}
 use native.Mathlib.Decide.{ℕ-discrete}
 use native.Mathlib.Omega.{arith}
 use mathlib.Core.Path.{_≡_, refl, sym, _∙_, ap, subst}
@@ -111,7 +111,7 @@ module _ (ws : List ℕ) (small : Words ws) (S : Sound ws) where
         wakes = λ e z. (omega arith, woken);
       }
     where
-      woken : tailWord ws (condition c) % 8 ≡ 1 → tailWord ws (condition c) ≡ 1
+      woken : tailWord ws (condition c) % 2 ≡ 1 → tailWord ws (condition c) < 8
       woken e =
           let o : partsOf n ws (kept (wakeup c)) ≡ 1 = rw h (omega arith) in
           let empty : reading ws (condition c) ≡ [] = S .valid .wakeups c (rw (eqb-no (partsOf n ws (kept (wakeup c))) 0 (λ z. omega arith))) in
@@ -156,13 +156,13 @@ module _ (ws : List ℕ) (small : Words ws) (S : Sound ws) where
       let s = small (at n (Timer x)) in
       omega arith
 
-  idle : (x : ℕ) (q : Queue) → member x (reading ws q) ≡ true → isCondition q ≡ false → (flags x ≡ 0) × (timer x ≡ 0) × (link x % 4 ≡ 0)
+  idle : (x : ℕ) (q : Queue) → member x (reading ws q) ≡ true → isCondition q ≡ false → ((flags x / 2 ≡ 0) × (timer x ≡ 0)) × (link x % 4 ≡ 0)
   idle x q m e =
       let i = is-inside x q m in
       let f = rw i at (S .tidy (Flags x) i) in
       let b : flags x / 2 % 2 ≡ 0 = flag x q m ∙ rw e in
       let a : flags x / 4 % 2 ≡ 0 = rw i at (S .valid .arms x (waits-is x q m ∙ e)) in
-      (omega arith, untimed x i a, link-low x i)
+      ((omega arith, untimed x i a), link-low x i)
 
   -- armed, or not
   waits : (x c : ℕ) → member x (reading ws (condition c)) ≡ true → Asleep (flags x) (timer x)

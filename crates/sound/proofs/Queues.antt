@@ -23,8 +23,8 @@ use Rattle.area.specs.Reading.{shapeOf}
 use Rattle.area.specs.Rings.{records}
 use Rattle.area.proofs.Records.{part-lent}
 use Rattle.heads.specs.First.{Decides, Counted, Led, Runs}
-use Rattle.heads.specs.Heads.{heading, headAt, holderIn}
-use Rattle.heads.proofs.Steps.{head-empty, head-empty-held}
+use Rattle.heads.specs.Heads.{isVacant, heading, headAt, holderIn}
+use Rattle.heads.proofs.Steps.{vacant-is, head-empty, head-empty-held}
 use Rattle.heads.proofs.Tests.{heading-is}
 use Rattle.members.specs.Walk.{ringed, Met, Told}
 use Rattle.members.proofs.Steps.{ring-empty}
@@ -73,10 +73,10 @@ module _ (hs rs : List ℕ) (P k : ℕ) where
     here = passed-more i js₀ (p .js) (p .so) ∙ rw (← e) (queued-is a w v (p .js) d f)
 
     -- an empty queue
-    pub passed-empty : w ≡ 0 → v ≡ 0 → Passed hs rs P k (i + 1) ms m js₀
-    passed-empty z o = record { js = p .js; met = p .met; so = here ∙ rw (← head-empty P k w v z o) (ring-empty rs P k (v / 8) (w / 8) (p .js) (omega arith)) }
+    pub passed-empty : isVacant k w ≡ true → v ≡ 0 → Passed hs rs P k (i + 1) ms m js₀
+    passed-empty z o = record { js = p .js; met = p .met; so = here ∙ rw (← head-empty P k w v z o) (ring-empty rs P k (v / 8) (w / 8) (p .js) (vacant-is P k w v z .0)) }
 
-    pub passed-held : (ms′ : List ℕ) → w ≡ 0 → (v ≡ 0 → ⊥) → Told P 1024 ms′ (passed hs rs P k n js₀)
+    pub passed-held : (ms′ : List ℕ) → isVacant k w ≡ true → (v ≡ 0 → ⊥) → Told P 1024 ms′ (passed hs rs P k n js₀)
     passed-held ms′ z o = told-none P ms′ _ (passed-stops (i + 1) n js₀ (omega arith) (here ∙ rw (← head-empty-held P k w v z o)))
 
     module _ (ok : Bool) (is-ok : ok ≡ heading P k w v) where

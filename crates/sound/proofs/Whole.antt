@@ -12,7 +12,7 @@ use Rattle.model.specs.declared.Shape.{Shape}
 use Rattle.model.specs.Queue.{Queue, inside, bit, same, exists, member, count, first, All, Falling, isCondition}
 use Rattle.model.specs.Queue.Queue.{ready, park, lock, condition}
 use Rattle.model.specs.Field.{Field, some, priorities}
-use Rattle.model.specs.Field.Field.{clock, running, priority, armed, timer, failed, holder, wakeup}
+use Rattle.model.specs.Field.Field.{clock, running, priority, armed, timer, failed, abort, holder, wakeup, abortable}
 use Rattle.model.specs.Machine as machine
 use Rattle.model.specs.Rules.{counted}
 use Rattle.model.specs.Valid.{room}
@@ -103,7 +103,7 @@ flag-bit (condition c) w f t h = ⊎-elim (λ d. omega arith) (λ d. let a = d .
 flag-timer : (k w f t : ℕ) → Fits k w f t → f / 4 % 2 ≡ 0 → t ≡ 0
 flag-timer k w f t h e = elim (ℕ-discrete k 2) [
   | yes d ↦ ⊎-elim (λ a. let z : ⊥ = omega arith in absurd z) (λ a. a .1) (h .waits d .0)
-  | no d ↦ h .idle d .1
+  | no d ↦ h .idle d .0 .1
 ]
 
 no-condition : (q : Queue) → isCondition q ≡ false → kindOf q ≡ 2 → ⊥
@@ -113,11 +113,17 @@ no-condition (lock l) e z = omega arith
 no-condition (condition c) e z = true≢false e
 
 -- the link and the flags of a member, and the word of a queue, are their parts
-flag-tidy : (f t : ℕ) → Asleep f t → f ≡ f / 4 % 2 * 4 + f / 2 % 2 * 2
-flag-tidy f t (inl d) = rw d
-flag-tidy f t (inr d) = rw (d .0)
+low-three : (w : ℕ) → w % 8 ≡ w / 4 % 2 * 4 + w / 2 % 2 * 2 + w / 1 % 2
+low-three w =
+    let a : w % 4 ≡ w / 2 % 2 * 2 + w / 1 % 2 = omega arith in
+    let b : w % 8 ≡ w / 4 % 2 * 4 + w % 4 = omega arith in
+    omega arith
 
-record-tidy : (k w f t : ℕ) → w < 65536 → Fits k w f t → (w ≡ w / 8192 % 8 * 8192 + w / 8 % 1024 * 8 + w / 4 % 2 * 4) × (f ≡ f / 4 % 2 * 4 + f / 2 % 2 * 2)
+flag-tidy : (f t : ℕ) → Asleep f t → f ≡ f / 4 % 2 * 4 + f / 2 % 2 * 2 + f / 1 % 2
+flag-tidy f t (inl d) = omega (arith, low-three f)
+flag-tidy f t (inr d) = omega (arith, low-three f, d .0)
+
+record-tidy : (k w f t : ℕ) → w < 65536 → Fits k w f t → (w ≡ w / 8192 % 8 * 8192 + w / 8 % 1024 * 8 + w / 4 % 2 * 4) × (f ≡ f / 4 % 2 * 4 + f / 2 % 2 * 2 + f / 1 % 2)
 record-tidy k w f t s h =
     let a : w % 8192 ≡ w / 8 % 1024 * 8 + w % 8 = omega arith in
     elim (ℕ-discrete k 2) [
@@ -125,11 +131,15 @@ record-tidy k w f t s h =
       | no n ↦ let b = h .idle n in (omega arith, omega arith)
     ]
 
-head-tidy : (P k w v : ℕ) → P ≤ 1023 → Headed P k w v → w ≡ w / 8 % 1024 * 8 + w / 1 % 2
-head-tidy P k w v s h = let a = h .tail in elim (ℕ-discrete v 0) [
-  | yes e ↦ elim (ℕ-discrete k 2) [ yes d ↦ let b = h .wakes e d .0 in omega arith | no d ↦ let b = h .plain e d in omega arith ]
-  | no n ↦ let b = h .held n in omega arith
-]
+lock-tidy : (P w v : ℕ) → P ≤ 1023 → Headed P 1 w v → w ≡ w / 8 % 1024 * 8 + w / 1 % 2
+lock-tidy P w v s h =
+    let a = h .tail in elim (ℕ-discrete v 0) [ yes e ↦ let b = h .plain e (λ z. omega arith) in omega arith | no n ↦ let b = h .held n in omega arith ]
+
+condition-tidy : (P w : ℕ) → P ≤ 1023 → Headed P 2 w 0 → w ≡ w / 8 % 1024 * 8 + w / 2 % 2 * 2 + w / 1 % 2
+condition-tidy P w s h =
+    let a : w / 8 % 1024 ≡ w / 8 = omega (arith, h .tail) in
+    let b : w / 4 % 2 ≡ 0 = omega (arith, low-three w, h .wakes refl refl .0) in
+    omega (arith, low-three w)
 
 -- ---- from what the check finds to a sound area
 
@@ -241,8 +251,8 @@ module _ (ws : List ℕ) (small : Words ws) (W : Whole ws) where
   tidy-at Running h = omega (arith, run-word, most)
   tidy-at (Tail ready) h = let d = W .each ready refl .head in omega (arith, d .plain refl (λ z. omega arith), d .tail, most)
   tidy-at (Tail (park k)) h = let d = W .each (park k) h .head in rw h (omega (arith, d .plain refl (λ z. omega arith), d .tail, most))
-  tidy-at (Tail (lock l)) h = rw h (head-tidy _ _ _ _ most (W .each (lock l) h .head))
-  tidy-at (Tail (condition c)) h = rw h (head-tidy _ _ _ _ most (W .each (condition c) h .head))
+  tidy-at (Tail (lock l)) h = rw h (lock-tidy _ _ _ most (W .each (lock l) h .head))
+  tidy-at (Tail (condition c)) h = rw h (condition-tidy _ _ most (W .each (condition c) h .head))
   tidy-at (Holder l) h = let d = W .each (lock l) h .head in rw h (omega (arith, d .whole, d .holder, most))
   tidy-at (Link p) h = rw h (record-tidy _ _ _ _ (small (at n (Link p))) (own p h) .0)
   tidy-at (Flags p) h = rw h (record-tidy _ _ _ _ (small (at n (Link p))) (own p h) .1)
@@ -286,12 +296,14 @@ module _ (ws : List ℕ) (small : Words ws) (W : Whole ws) where
   range-at (armed p) = ranged (inside P p) _ 2 (omega arith)
   range-at (timer p) = ranged (inside P p) _ 65536 (omega arith)
   range-at (failed p) = ranged (inside P p) _ 2 (omega arith)
+  range-at (abort p) = ranged (inside P p) _ 2 (omega arith)
   range-at (holder l) = go (inside (n .locks) l) refl
     where
       go : (b : Bool) → inside (n .locks) l ≡ b → partsOf n ws (kept (holder l)) < room n (holder l)
       go true h = let d = W .each (lock l) h .head .holder in rw h (omega arith)
       go false h = rw h (omega arith)
   range-at (wakeup c) = ranged (inside (n .conditions) c) _ 2 (omega arith)
+  range-at (abortable c) = ranged (inside (n .conditions) c) _ 2 (omega arith)
 
   falls-at : (q : Queue) → Falling (priorities (stateOf ws .fields)) (reading ws q)
   falls-at q = go (exists n q) refl
@@ -336,7 +348,7 @@ module _ (ws : List ℕ) (small : Words ws) (W : Whole ws) where
       go false i = rw i
       go true i =
           let e : isCondition (place x) ≡ false = rw i at (sym (waiting-is n (reading ws) place stands x (real-at x)) ∙ w) in
-          let t = own x i .idle (no-condition (place x) e) .0 in
+          let t = own x i .idle (no-condition (place x) e) .0 .0 in
           rw i (omega arith)
 
   timers-at : (x : ℕ) → partsOf n ws (kept (armed x)) ≡ 0 → partsOf n ws (kept (timer x)) ≡ 0
@@ -372,7 +384,7 @@ module _ (ws : List ℕ) (small : Words ws) (W : Whole ws) where
           let d = W .each (condition c) h .head in
           let k = d .wakes refl refl in
           let o : getD ws (at n (Tail (condition c))) 0 / 1 % 2 ≡ 0 → ⊥ = λ z. false≢true (rw (h, z) at w) in
-          let e : tailWord ws (condition c) % 8 ≡ 1 = elim (ℕ-discrete (getD ws (at n (Tail (condition c))) 0 / 1 % 2) 0) [ yes z ↦ absurd (o z) | no z ↦ omega arith ] in
+          let e : tailWord ws (condition c) % 2 ≡ 1 = elim (ℕ-discrete (getD ws (at n (Tail (condition c))) 0 / 1 % 2) 0) [ yes z ↦ absurd (o z) | no z ↦ omega arith ] in
           let f = k .1 e in
           let t : partsOf n ws (tail (condition c)) ≡ 0 = rw h (omega arith) in
           rw t

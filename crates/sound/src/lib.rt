@@ -34,7 +34,7 @@ fn rings(
         let v = heads::holder_word(heads, kind, at);
         i += 1;
         // most queues are empty
-        if w == 0 {
+        if heads::vacant(kind, w) {
             if v != 0 {
                 return BROKEN;
             }

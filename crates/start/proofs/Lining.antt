@@ -160,7 +160,7 @@ module _ (n : Shape) (bytes ws : List ℕ) (ok : startCode n bytes ≡ 0) (im : 
         (before (at n (Tail (condition c))) (omega (arith, inside-bounds (n .conditions) c h)) (omega arith) ∙ im .words (Tail (condition c)) h)
     words-at (Holder l) h = before (at n (Holder l)) (omega (arith, inside-bounds (n .locks) l h)) (omega arith) ∙ im .words (Holder l) h
     words-at (Link p) h = within (slot p) (at n (Link p)) refl ∙ link-at p h
-    words-at (Flags p) h = beside (slot p + 1) (at n (Flags p)) (omega arith) (λ x y z. omega arith) ∙ im .words (Flags p) h ∙ ap (λ k. 0 * 4 + k * 2) (waits p)
+    words-at (Flags p) h = beside (slot p + 1) (at n (Flags p)) (omega arith) (λ x y z. omega arith) ∙ im .words (Flags p) h ∙ ap (λ k. 0 * 4 + k * 2 + 0) (waits p)
     words-at (Timer p) h = beside (slot p + 2) (at n (Timer p)) (omega arith) (λ x y z. omega arith) ∙ im .words (Timer p) h
 
     beyond : drop (size n) new ≡ drop (size n) ws

@@ -17,7 +17,7 @@ use Rattle.model.specs.declared.Answer.{Answer}
 use Rattle.model.specs.Queue.{Queue, anyOf}
 use Rattle.model.specs.Queue.Queue.{ready, park, lock, condition}
 use Rattle.model.specs.Field.{Field}
-use Rattle.model.specs.Field.Field.{clock, running, priority, armed, timer, failed, holder, wakeup}
+use Rattle.model.specs.Field.Field.{clock, running, priority, armed, timer, failed, abort, holder, wakeup, abortable}
 use Rattle.model.specs.Rules.{counted, anyAbove, startCode, fresh}
 use Rattle.model.specs.Machine.{model, start, refusal}
 use Rattle.model.proofs.Tests.{holds, fails, LeCase, leb-case}
@@ -119,8 +119,10 @@ fresh-none (priority (suc p)) = refl
 fresh-none (armed p) = refl
 fresh-none (timer p) = refl
 fresh-none (failed p) = refl
+fresh-none (abort p) = refl
 fresh-none (holder l) = refl
 fresh-none (wakeup c) = refl
+fresh-none (abortable c) = refl
 
 laid-none : (n : Shape) (f : Part) → 0 ≡ laid n (lined [] 0) f
 laid-none n (kept f) = sym (fresh-none f)
@@ -136,8 +138,10 @@ span-some (kept (priority p)) = omega arith
 span-some (kept (armed p)) = omega arith
 span-some (kept (timer p)) = omega arith
 span-some (kept (failed p)) = omega arith
+span-some (kept (abort p)) = omega arith
 span-some (kept (holder l)) = omega arith
 span-some (kept (wakeup c)) = omega arith
+span-some (kept (abortable c)) = omega arith
 span-some (tail q) = omega arith
 span-some (next p) = omega arith
 span-some (locked l) = omega arith

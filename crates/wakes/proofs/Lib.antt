@@ -1,2 +1,2 @@
 pub mod Waking
-pub mod Ticking
+pub mod Aborting

@@ -1,4 +1,4 @@
-// Waking from a condition, on an area that holds a valid state: Notify, Broadcast and Naked here, Tick in clock. Assumes nothing.
+// One process wakes from a condition, on an area that holds a valid state: Notify and Naked here, Abort and SetAbortable in aborts. Assumes nothing.
 use area::places;
 use model::Answer;
 use model::Shape;
@@ -6,38 +6,47 @@ use outcomes::answers;
 use outcomes::codes;
 ghost use mathlib.Core.Path.{_≡_};
 ghost use mathlib.Core.Bool.{true};
-ghost use Prim.Native.Nat.{ℕ};
+ghost use mathlib.Core.List.{[], _∷_};
 ghost use lib.ListN.{length};
-ghost use Rattle.model.specs.declared.Call.the-variants.{Notify, Broadcast, Naked};
-ghost use Rattle.model.specs.Queue.{Queue, inside, firstOnly, toReady};
-ghost use Rattle.model.specs.Field.{put};
-ghost use Rattle.model.specs.Field.Field.{running, timer};
-ghost use Rattle.model.specs.Rules.{calm};
+ghost use Rattle.model.specs.declared.Call.the-variants.{Notify, Naked};
+ghost use Rattle.model.specs.Queue.{Queue, inside, member, firstOnly};
 ghost use Rattle.model.specs.Machine.{State, model};
 ghost use Rattle.model.specs.Valid.{Valid};
-ghost use Rattle.area.specs.Layout.{at};
-ghost use Rattle.area.specs.Layout.Slot.{Tail};
-ghost use Rattle.area.specs.Holds.{Holds, Held, Becomes};
-ghost use Rattle.area.specs.Calls.{Stands, Does, changed};
+ghost use Rattle.area.specs.Holds.{Holds, Held, Becomes, Tried};
+ghost use Rattle.area.specs.Calls.{Stands, Does, woken};
 
-pub mod clock;
+pub mod aborts;
 
-// The first of the condition wakes, if there is one: it moves to ready, its timer is 0, and it is no longer armed. The answer is how many.
+// p wakes, if it stands in the condition: it moves to ready, its timer is 0, and it is no longer armed. Whether it does.
+fn rouse(area: &mut [u16], shape: Shape, condition: u16, p: u16) -> bool
+    requires { ⌜ Held shape (now area) ⌝ }
+    requires { ⌜ inside (shape .conditions) condition ≡ true ⌝ }
+    requires { ⌜ inside (shape .processes) p ≡ true ⌝ }
+    ensures { λ r. ⌜ ((s : State model) → Holds shape (now (area .entry)) s → Tried (member p (s .queues (Queue.condition condition))) r (now (area .entry)) (now (area .exit)) (Becomes shape (now (area .entry)) (now (area .exit)) (woken (p ∷ []) s))) ⌝ }
+{
+    let from = area::condition_at(shape, condition);
+    let to = area::ready_at();
+    let base = area::records_at(shape);
+    if !moves::send(area, base, from, to, p) {
+        return false;
+    }
+    area::put(area, places::timer(shape, p), 0);
+    area::put(area, places::armed(shape, p), 0);
+    true
+}
+
+// The first of the condition wakes, if there is one. The answer is how many.
 fn wake_first(area: &mut [u16], shape: Shape, condition: u16) -> u16
     requires { ⌜ Held shape (now area) ⌝ }
     requires { ⌜ inside (shape .conditions) condition ≡ true ⌝ }
-    ensures { λ r. ⌜ ((s : State model) → Holds shape (now (area .entry)) s → (r ≡ length (firstOnly (s .queues (Queue.condition condition)))) × Becomes shape (now (area .entry)) (now (area .exit)) (changed (calm (firstOnly (s .queues (Queue.condition condition))) (s .fields)) (toReady (firstOnly (s .queues (Queue.condition condition)))) s)) ⌝ }
+    ensures { λ r. ⌜ ((s : State model) → Holds shape (now (area .entry)) s → (r ≡ length (firstOnly (s .queues (Queue.condition condition)))) × Becomes shape (now (area .entry)) (now (area .exit)) (woken (firstOnly (s .queues (Queue.condition condition))) s)) ⌝ }
 {
-    let from = area::condition_at(shape, condition);
-    let first = moves::first_in(area, shape, from);
+    let at = area::condition_at(shape, condition);
+    let first = moves::first_in(area, shape, at);
     if first == 0 {
         return 0;
     }
-    let to = area::ready_at();
-    let base = area::records_at(shape);
-    moves::send(area, base, from, to, first);
-    area::put(area, places::timer(shape, first), 0);
-    area::put(area, places::armed(shape, first), 0);
+    rouse(area, shape, condition, first);
     1
 }
 
@@ -52,33 +61,6 @@ pub fn notify(area: &mut [u16], shape: Shape, condition: u16) -> Answer
     }
     let moved = wake_first(area, shape, condition);
     answers::finish(area, shape, 0, moved, 0)
-}
-
-// All of the condition whose tail stands at from wake, first to last. The answer is how many.
-fn wake_all(area: &mut [u16], shape: Shape, from: usize) -> u16
-    requires { ⌜ ((c : ℕ) × Held shape (now area) × (inside (shape .conditions) c ≡ true) × (from ≡ at shape (Tail (Queue.condition c)))) ⌝ }
-    ensures { λ r. ⌜ ((s : State model) (c : ℕ) → Holds shape (now (area .entry)) s → inside (shape .conditions) c ≡ true → from ≡ at shape (Tail (Queue.condition c)) → (r ≡ length (s .queues (Queue.condition c))) × Becomes shape (now (area .entry)) (now (area .exit)) (changed (calm (s .queues (Queue.condition c)) (s .fields)) (toReady (s .queues (Queue.condition c))) s)) ⌝ }
-{
-    let first = moves::first_in(area, shape, from);
-    if first == 0 {
-        return 0;
-    }
-    let last = crowds::empty(area, shape, from);
-    crowds::wake_chain(area, shape, first, last)
-}
-
-pub fn broadcast(area: &mut [u16], shape: Shape, condition: u16) -> Answer
-    requires { ⌜ Stands shape (now area) ⌝ }
-    ensures { λ r. ⌜ ((s : State model) → Holds shape (now (area .entry)) s → Valid shape s → Does (Broadcast condition) shape (now (area .entry)) (now (area .exit)) s r) ⌝ }
-{
-    let running = area::running_of(area);
-    let code = codes::calling(running, shape.conditions, condition);
-    if code != 0 {
-        return answers::refusal(code);
-    }
-    let from = area::condition_at(shape, condition);
-    let all = wake_all(area, shape, from);
-    answers::finish(area, shape, 0, all, 0)
 }
 
 pub fn naked(area: &mut [u16], shape: Shape, condition: u16) -> Answer

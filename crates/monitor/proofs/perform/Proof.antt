@@ -31,10 +31,22 @@ returns-8 c = performs-as (c .before .before .before .before .before .call8 .giv
 returns-9 : tie.Need-returns-9
 returns-9 c = performs-as (c .before .before .before .before .enum-told .given .1) (c .before .before .tick .ensures)
 
+returns-10 : tie.Need-returns-10
+returns-10 c = performs-as (c .before .before .before .before .before .call9 .given .1) (c .before .before .abort .ensures)
+
+returns-11 : tie.Need-returns-11
+returns-11 c = performs-as (c .before .before .before .before .before .call10 .given .1) (c .before .before .set-abortable .ensures)
+
+returns-12 : tie.Need-returns-12
+returns-12 c = performs-as (c .before .before .before .before .before .call11 .given .1) (c .before .before .reenter .ensures)
+
 pub perform-spec : {M : Type 1} → statement M
 perform-spec =
     tie.close
     (tie.spec
+    (λ c. search needs) (λ c κs. search needs)
+    (λ c. search needs) (λ c κs. search needs)
+    (λ c. search needs) (λ c κs. search needs)
     (λ c. search needs) (λ c κs. search needs)
     (λ c. search needs) (λ c κs. search needs)
     (λ c. search needs) (λ c κs. search needs)
@@ -52,4 +64,7 @@ perform-spec =
     (λ c. search needs) returns-6
     (λ c. search needs) returns-7
     (λ c. search needs) returns-8
-    (λ c. search needs) returns-9)
+    (λ c. search needs) returns-9
+    (λ c. search needs) returns-10
+    (λ c. search needs) returns-11
+    (λ c. search needs) returns-12)

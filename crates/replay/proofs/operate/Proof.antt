@@ -1,7 +1,7 @@
 -- `replay::operate` meets its contract: each number makes the call of its place in 01's order, and the others none. Assumes nothing.
 use mathlib.Core.Path.{refl}
 use borrow.Author.Needs.{needs}
-use Rattle.replay.proofs.Replays.{op-enter, op-exit, op-wait, op-notify, op-broadcast, op-naked, op-requeue, op-priority, op-tick, op-none}
+use Rattle.replay.proofs.Replays.{op-enter, op-exit, op-wait, op-notify, op-broadcast, op-naked, op-requeue, op-priority, op-tick, op-abort, op-set-abortable, op-reenter, op-none}
 use Rattle.replay.proofs.operate.Statement.{statement}
 use Rattle.replay.proofs.operate.Tie as tie
 
@@ -63,16 +63,27 @@ made-if-requires-7 c κs = search needs
 returns-9 : tie.Need-returns-9
 returns-9 c = op-tick _ _ _ (c .before .before .if9 .taken) (c .before .no-three .ensures) (c .made-if7 .ensures)
 
+made-if-requires-8 : tie.Need-made-if-requires-8
+made-if-requires-8 c κs = search needs
+
 returns-10 : tie.Need-returns-10
-returns-10 c =
-    let if1 = c .before .before .before .before .before .before .before .before .if1 in
-    let if2 = c .before .before .before .before .before .before .before .if2 in
-    let if3 = c .before .before .before .before .before .before .if3 in
-    let if4 = c .before .before .before .before .before .if4 in
-    let if5 = c .before .before .before .before .if5 in
-    let if6 = c .before .before .before .if6 in
-    let if7 = c .before .before .if7 in
-    op-none _ _ _ (if1 .left) (if2 .left) (if3 .left) (if4 .left) (if5 .left) (if6 .left) (if7 .left) (c .before .if8 .left) (c .if9 .left)
+returns-10 c = op-abort _ _ _ (c .before .if10 .taken) (c .before .before .before .before .before .before .before .before .before .before .before .no-two .ensures) (c .made-if8 .ensures)
+
+made-if-requires-9 : tie.Need-made-if-requires-9
+made-if-requires-9 c κs = search needs
+
+returns-11 : tie.Need-returns-11
+returns-11 c = op-set-abortable _ _ _ (c .before .if11 .taken) refl (c .made-if9 .ensures)
+
+made-if-requires-10 : tie.Need-made-if-requires-10
+made-if-requires-10 c κs = search needs
+
+returns-12 : tie.Need-returns-12
+returns-12 c = op-reenter _ _ _ (c .before .if12 .taken) refl (c .made-if10 .ensures)
+
+returns-13 : tie.Need-returns-13
+returns-13 c =
+    op-none _ _ _ (c .before .before .before .before .before .before .before .before .before .before .before .if1 .left) (c .before .before .before .before .before .before .before .before .before .before .if2 .left) (c .before .before .before .before .before .before .before .before .before .if3 .left) (c .before .before .before .before .before .before .before .before .if4 .left) (c .before .before .before .before .before .before .before .if5 .left) (c .before .before .before .before .before .before .if6 .left) (c .before .before .before .before .before .if7 .left) (c .before .before .before .before .if8 .left) (c .before .before .before .if9 .left) (c .before .before .if10 .left) (c .before .if11 .left) (c .if12 .left)
 
 pub operate-spec : {M : Type 1} → statement M
 operate-spec =
@@ -96,4 +107,10 @@ operate-spec =
     no-three-requires
     made-if-requires-7
     returns-9
-    returns-10)
+    made-if-requires-8
+    returns-10
+    made-if-requires-9
+    returns-11
+    made-if-requires-10
+    returns-12
+    returns-13)

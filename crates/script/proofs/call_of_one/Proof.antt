@@ -22,6 +22,9 @@ enum-told-5 c = search needs
 enum-told-6 : tie.Need-enum-told-6
 enum-told-6 c = search needs
 
+enum-told-7 : tie.Need-enum-told-7
+enum-told-7 c = search needs
+
 returns : tie.Need-returns
 returns c = λ bytes. rw (c .enum-told .given .1)
 
@@ -41,7 +44,10 @@ returns-6 : tie.Need-returns-6
 returns-6 c = λ bytes. rw (c .enum-told6 .given .1)
 
 returns-7 : tie.Need-returns-7
-returns-7 c = λ bytes. none-of-1 (c .before .args .name) (c .before .args .x) (c .match .keys7)
+returns-7 c = λ bytes. rw (c .enum-told7 .given .1)
+
+returns-8 : tie.Need-returns-8
+returns-8 c = λ bytes. none-of-1 (c .before .args .name) (c .before .args .x) (c .match .keys8)
 
 pub call-of-one-spec : {M : Type 1} → statement M
 call-of-one-spec =
@@ -53,10 +59,12 @@ call-of-one-spec =
     enum-told-4
     enum-told-5
     enum-told-6
+    enum-told-7
     returns
     returns-2
     returns-3
     returns-4
     returns-5
     returns-6
-    returns-7)
+    returns-7
+    returns-8)

@@ -51,11 +51,14 @@ holder-word-requires c κs =
 add-i : tie.Need-add-i Inv-loop μ-loop
 add-i c = omega arith
 
+vacant-requires : tie.Need-vacant-requires Inv-loop μ-loop
+vacant-requires c κs = search needs
+
 returns : tie.Need-returns Inv-loop μ-loop
 returns c js is e T =
-    let h = c .before .before in
+    let h = c .before .before .before in
     let l = h .before .before .before .before in
-    passed-held _ _ _ _ _ _ _ _ (h .before .before .head-at .ensures) refl (h .holder-word .ensures) _ (h .before .before .before .loop-test .taken) _ _ js (l .loop .inv .1 js is e T) _ (c .before .if1 .taken) (c .if2 .taken)
+    passed-held _ _ _ _ _ _ _ _ (h .before .before .head-at .ensures) refl (h .holder-word .ensures) _ (h .before .before .before .loop-test .taken) _ _ js (l .loop .inv .1 js is e T) _ (sym (c .before .before .vacant .ensures) ∙ c .before .if1 .taken) (c .if2 .taken)
 
 loop-less : tie.Need-loop-less Inv-loop μ-loop
 loop-less c = omega arith
@@ -64,30 +67,30 @@ loop-again : tie.Need-loop-again Inv-loop μ-loop
 loop-again c = (
   omega arith,
   λ js is e T.
-      let h = c .before .before in
+      let h = c .before .before .before in
       let l = h .before .before .before .before in
-      passed-empty _ _ _ _ _ _ _ _ (h .before .before .head-at .ensures) refl (h .holder-word .ensures) _ (h .before .before .before .loop-test .taken) _ _ js (l .loop .inv .1 js is e T) (c .before .if1 .taken) (c .if2 .left),
+      passed-empty _ _ _ _ _ _ _ _ (h .before .before .head-at .ensures) refl (h .holder-word .ensures) _ (h .before .before .before .loop-test .taken) _ _ js (l .loop .inv .1 js is e T) (sym (c .before .before .vacant .ensures) ∙ c .before .if1 .taken) (c .if2 .left),
 )
 
 in-order-requires : tie.Need-in-order-requires Inv-loop μ-loop
 in-order-requires c κs = search needs
 
 -- the words are tested for as many processes as there are
-tested : (c : tie.After-in-order Inv-loop μ-loop) → let a = c .before .before .before .before .before .before .before .before .before .args in let h = c .before .before in c .in-order .result ≡ heading (a .processes) (a .kind) (getD (now (a .heads)) (h .before .before .head-at .result) 0) (h .holder-word .result)
+tested : (c : tie.After-in-order Inv-loop μ-loop) → let a = c .before .before .before .before .before .before .before .before .before .before .args in let h = c .before .before .before in c .in-order .result ≡ heading (a .processes) (a .kind) (getD (now (a .heads)) (h .before .before .head-at .result) 0) (h .holder-word .result)
 tested c =
-    let s = c .before .before .before .before .before .before .before .before .before in
+    let s = c .before .before .before .before .before .before .before .before .before .before in
     let few = s .pre .0 in
     let most : bitAnd (s .args .processes) 1023 ≡ s .args .processes = and-mask (s .args .processes) 10 ∙ omega (arith, few) in
     rw most at (c .in-order .ensures)
 
 returns-2 : tie.Need-returns-2 Inv-loop μ-loop
 returns-2 c js is e T =
-    let h = c .before .before .before in
+    let h = c .before .before .before .before in
     let l = h .before .before .before .before in
     passed-odd _ _ _ _ _ _ _ _ (h .before .before .head-at .ensures) refl (h .holder-word .ensures) _ (h .before .before .before .loop-test .taken) _ _ js (l .loop .inv .1 js is e T) _ (tested (c .before)) _ (c .if3 .taken)
 
 -- past the test the tail is one of 0 to P
-tail-small : (c : tie.Else3 Inv-loop μ-loop) → getD (now (c .before .before .before .before .before .before .before .before .before .before .args .heads)) (c .before .before .before .before .before .head-at .result) 0 / 8 ≤ c .before .before .before .before .before .before .before .before .before .before .args .processes
+tail-small : (c : tie.Else3 Inv-loop μ-loop) → getD (now (c .before .before .before .before .before .before .before .before .before .before .before .args .heads)) (c .before .before .before .before .before .before .head-at .result) 0 / 8 ≤ c .before .before .before .before .before .before .before .before .before .before .before .args .processes
 tail-small c = heading-is _ _ _ _ (sym (tested (c .before)) ∙ not-false _ (c .if3 .left)) .tail
 
 next-field-requires : tie.Need-next-field-requires Inv-loop μ-loop
@@ -109,7 +112,7 @@ returns-3 : tie.Need-returns-3 Inv-loop μ-loop
 returns-3 c = λ js is e T.
     let f = c .before .before .before in
     let i3 = f .before .before in
-    let h = i3 .before .before .before in
+    let h = i3 .before .before .before .before in
     let l = h .before .before .before .before in
     passed-broken _ _ _ _ _ _ _ _ (h .before .before .head-at .ensures) refl (h .holder-word .ensures) _ (h .before .before .before .loop-test .taken) _ _ js (l .loop .inv .1 js is e T) _ (tested (i3 .before)) (i3 .if3 .left) (l .before .before .before .pre .0) _ _ (f .before .next-field .ensures) (f .next-field2 .ensures) _ _ (c .before .walk .ensures) _ (c .if4 .taken)
 
@@ -122,7 +125,7 @@ loop-again-2 c = (
   λ js is e T.
       let f = c .before .before .before in
       let i3 = f .before .before in
-      let h = i3 .before .before .before in
+      let h = i3 .before .before .before .before in
       let l = h .before .before .before .before in
       passed-on _ _ _ _ _ _ _ _ (h .before .before .head-at .ensures) refl (h .holder-word .ensures) _ (h .before .before .before .loop-test .taken) _ _ js (l .loop .inv .1 js is e T) _ (tested (i3 .before)) (i3 .if3 .left) (l .before .before .before .pre .0) _ _ (f .before .next-field .ensures) (f .next-field2 .ensures) _ _ (c .before .walk .ensures) (c .if4 .left),
 )
@@ -142,6 +145,7 @@ rings-spec =
     shared-slice-read-w
     holder-word-requires
     add-i
+    vacant-requires
     returns
     loop-less
     loop-again
