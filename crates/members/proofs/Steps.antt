@@ -2,8 +2,8 @@
 use Prim.Native.Nat.{ℕ, zero, suc, _+_, _-_, _*_, _/_, _%_, _≤_, _<_}
 use native.Mathlib.Decide.{ℕ-discrete, decLt}
 use native.Mathlib.Omega.{arith}
-use mathlib.Core.Path.{_≡_, refl}
-use mathlib.Core.Bool.{Bool, true, false, not, _&&_, or-false, and-true, and-false}
+use mathlib.Core.Path.{_≡_, refl, sym, ap, _∙_}
+use mathlib.Core.Bool.{Bool, true, false, not, and-false}
 use mathlib.Core.List.{List, _∷_}
 use mathlib.Core.Option.{none, some}
 use lib.Bits.{bitAnd, bitOr, and-mask, and-high, and-block, or-add-and}
@@ -14,7 +14,7 @@ use Rattle.model.specs.Queue.{inside}
 use Rattle.model.proofs.Tests.{and-split, inside-bounds}
 use Rattle.links.specs.Link.{next, priority}
 use Rattle.links.proofs.Links.{low-bits}
-use Rattle.members.specs.Walk.{isEligible, isFresh, isAsleep, isIdle, fitting, fitsIn, walked, ringed}
+use Rattle.members.specs.Walk.{isEligible, isFresh, isAsleep, isIdle, isTidy, fitting, fitsIn, walked, ringed}
 
 -- ---- whether a process is eligible
 
@@ -37,31 +37,43 @@ module _ (P o p : ℕ) where
 
 -- ---- whether a record fits
 
--- the flags but for abort, above the low bits of a link
-pub flagged-is : (w f : ℕ) → w < 65536 → f < 65536 → bitAnd (f * 65536 + w) 4294836231 ≡ f / 2 * 131072 + w % 8
-flagged-is w f a b =
-    let h : bitAnd f 65534 ≡ f / 2 % 32768 * 2 = and-high f 15 1 in
-    let l = low-bits w in
-    let e : bitAnd (f * 65536 + w) 4294836231 ≡ bitAnd f 65534 * 65536 + bitAnd w 7 = and-block 16 f 65534 w 7 a (omega arith) in
-    omega arith
+-- the flags but for armed and abort
+pub fixed-is : (f : ℕ) → f < 65536 → bitAnd f 65530 ≡ f / 8 * 8 + f / 2 % 2 * 2
+fixed-is f b =
+    let d : bitAnd (f / 8 * 8 + f % 8) 65530 ≡ bitAnd (f / 8) 8191 * 8 + bitAnd (f % 8) 2 = and-block 3 (f / 8) 8191 (f % 8) 2 (omega arith) (omega arith) in
+    let g : f / 8 * 8 + f % 8 ≡ f = omega arith in
+    let h : bitAnd (f / 8) 8191 ≡ f / 8 % 8192 = and-mask (f / 8) 13 in
+    let few : f / 8 % 8192 ≡ f / 8 = omega arith in
+    let m : bitAnd (f % 8) 2 ≡ f % 8 / 2 % 2 * 2 = and-high (f % 8) 1 1 in
+    let o : f % 8 / 2 % 2 ≡ f / 2 % 2 = omega arith in
+    ap (λ x. bitAnd x 65530) (sym g) ∙ d ∙ rw (h, few, m, o)
 
--- of a record in a condition, b being that number
-module _ (w f t : ℕ) {b : ℕ} (e : b ≡ f / 2 * 131072 + w % 8) where
-  pub asleep-alone : b ≡ 131072 → eqb t 0 ≡ isAsleep f t && eqb (w % 8) 0
+-- of a process in a condition
+module _ (f t : ℕ) (small : f < 65536) where
+  pub asleep-not : (bitAnd f 65530 ≡ 2 → ⊥) → false ≡ isAsleep f t
   unfolding isAsleep
-  asleep-alone z =
-      let k : f / 2 ≡ 1 = omega arith in
-      rw (eq-eqb (w % 8) 0 (omega arith), and-true, eq-eqb (f / 2) 1 k, ne-eqb (f / 2) 3 (λ y. omega arith))
+  asleep-not n =
+      let e = fixed-is f small in
+      rw (ne-eqb (f / 2) 3 (λ z. n (e ∙ omega arith)), ne-eqb (f / 2) 1 (λ z. n (e ∙ omega arith)))
 
-  pub asleep-armed : (b ≡ 131072 → ⊥) → eqb b 393216 ≡ isAsleep f t && eqb (w % 8) 0
-  unfolding isAsleep
-  asleep-armed n = elim (ℕ-discrete (w % 8) 0) [
-    | no l ↦ rw (ne-eqb (w % 8) 0 l, and-false, ne-eqb b 393216 (λ z. l (omega arith)))
-    | yes l ↦ rw (eq-eqb (w % 8) 0 l, and-true, ne-eqb (f / 2) 1 (λ z. n (omega arith)), or-false) (elim (ℕ-discrete (f / 2) 3) [
-      | yes k ↦ rw (eq-eqb (f / 2) 3 k, eq-eqb b 393216 (omega arith))
-      | no k ↦ rw (ne-eqb (f / 2) 3 k, ne-eqb b 393216 (λ z. k (omega arith)))
-    ])
-  ]
+  module _ (z : bitAnd f 65530 ≡ 2) where
+    named : (f / 8 ≡ 0) × (f / 2 % 2 ≡ 1)
+    named = let e : f / 8 * 8 + f / 2 % 2 * 2 ≡ 2 = sym (fixed-is f small) ∙ z in let p : f / 8 ≡ 0 = omega arith in (p, omega arith)
+
+    pub asleep-few : f / 4 * 65535 < 65536
+    asleep-few = let p = named .0 in omega arith
+
+    pub asleep-by : t < 65536 → leb t (f / 4 * 65535) ≡ isAsleep f t
+    unfolding isAsleep
+    asleep-by low =
+        let p = named .0 in let q = named .1 in
+        elim (ℕ-discrete (f / 2) 3) [
+          | yes k ↦ rw (eq-eqb (f / 2) 3 k, le-leb t (f / 4 * 65535) (let o : f / 4 ≡ 1 = omega arith in omega arith))
+          | no k ↦
+              let o : f / 2 ≡ 1 = omega arith in
+              let u : f / 4 ≡ 0 = omega arith in
+              rw (ne-eqb (f / 2) 3 k, eq-eqb (f / 2) 1 o, u) (elim (ℕ-discrete t 0) [ yes y ↦ rw (eq-eqb t 0 y, le-leb t (0 * 65535) (omega arith)) | no y ↦ rw (ne-eqb t 0 y, lt-leb t (0 * 65535) (omega arith)) ])
+        ]
 
 -- of flags and a timer elsewhere, as one number
 pub idle-by : (f t : ℕ) → f < 65536 → leb (t * 65536 + f) 1 ≡ isIdle f t
@@ -74,25 +86,31 @@ idle-by f t small = elim (decLt 1 (t * 65536 + f)) [
   ])
 ]
 
+module _ (k w : ℕ) where
+  pub tidy-blocked : k ≡ 1 → eqb (bitAnd w 7) 4 ≡ isTidy k w
+  unfolding isTidy
+  tidy-blocked e = rw (low-bits w, eq-eqb k 1 e)
+
+  pub tidy-plain : (k ≡ 1 → ⊥) → eqb (bitAnd w 3) 0 ≡ isTidy k w
+  unfolding isTidy
+  tidy-plain n = rw (and-mask w 2, ne-eqb k 1 n)
+
 module _ (k w f t : ℕ) where
-  unnamed : bitAnd w 3 ≡ w % 4
-  unnamed = and-mask w 2
-
-  pub fit-waits : {b : Bool} → k ≡ 2 → b ≡ isAsleep f t && eqb (w % 8) 0 → b ≡ fitting k w f t
+  pub fit-awake : k ≡ 2 → isAsleep f t ≡ false → false ≡ fitting k w f t
   unfolding fitting
-  fit-waits e d = rw (eq-eqb k 2 e) d
+  fit-awake e d = rw (eq-eqb k 2 e, d)
 
-  pub fit-busy : (k ≡ 2 → ⊥) → isIdle f t ≡ false → false ≡ fitting k w f t
+  pub fit-waits : k ≡ 2 → isAsleep f t ≡ true → eqb (bitAnd w 7) 0 ≡ fitting k w f t
   unfolding fitting
-  fit-busy e d = rw (ne-eqb k 2 e, d)
+  fit-waits e d = rw (low-bits w, eq-eqb k 2 e, d)
 
-  pub fit-blocked : (k ≡ 2 → ⊥) → isIdle f t ≡ true → k ≡ 1 → eqb (bitAnd w 7) 4 ≡ fitting k w f t
+  pub fit-untidy : (k ≡ 2 → ⊥) → isTidy k w ≡ false → false ≡ fitting k w f t
   unfolding fitting
-  fit-blocked e d l = rw (low-bits w, ne-eqb k 2 e, d, eq-eqb k 1 l)
+  fit-untidy e d = rw (ne-eqb k 2 e, d)
 
-  pub fit-plain : (k ≡ 2 → ⊥) → isIdle f t ≡ true → (k ≡ 1 → ⊥) → eqb (bitAnd w 3) 0 ≡ fitting k w f t
+  pub fit-idle : {b : Bool} → (k ≡ 2 → ⊥) → isTidy k w ≡ true → b ≡ isIdle f t → b ≡ fitting k w f t
   unfolding fitting
-  fit-plain e d l = rw (unnamed, ne-eqb k 2 e, d, ne-eqb k 1 l)
+  fit-idle e d h = rw (ne-eqb k 2 e, d) h
 
 -- with all bits below its priority set, a link is the highest of that priority
 pub falls-by : (a w : ℕ) → leb w (bitOr a 8191) ≡ leb (w / 8192) (a / 8192)

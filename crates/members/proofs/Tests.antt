@@ -10,7 +10,7 @@ use lib.Dec.{eqb, leb}
 use borrow.Author.Tests.{le-leb, eq-eqb, ne-eqb, leb-true, eqb-true, eqb-false}
 use Rattle.model.specs.Queue.{inside, member}
 use Rattle.model.proofs.Tests.{and-split, not-true}
-use Rattle.members.specs.Walk.{isEligible, isFresh, isAsleep, isIdle, fitting}
+use Rattle.members.specs.Walk.{isEligible, isFresh, isAsleep, isIdle, isTidy, fitting}
 
 -- a fresh process
 pub record Fresh (P o p : ℕ) (js : List ℕ) : Type 0 where
@@ -65,7 +65,7 @@ pub record Fits (k w f t : ℕ) : Type 0 where
   pub blocked : k ≡ 1 → w % 8 ≡ 4
 
 pub fitting-is : (k b w f t : ℕ) → (fitting k w f t && leb (w / 8192) b) ≡ true → (w / 8192 ≤ b) × Fits k w f t
-unfolding fitting
+unfolding fitting isTidy
 fitting-is k b w f t e = (leb-true (w / 8192) b (s .1), go (ℕ-discrete k 2) (ℕ-discrete k 1))
   where
     s : (fitting k w f t ≡ true) × (leb (w / 8192) b ≡ true)
@@ -76,16 +76,16 @@ fitting-is k b w f t e = (leb-true (w / 8192) b (s .1), go (ℕ-discrete k 2) (�
         let a = and-split (isAsleep f t) (eqb (w % 8) 0) (rw (eq-eqb k 2 d) at (s .0)) in
         record { waits = λ z. (asleep-is f t (a .0), eqb-true (w % 8) 0 (a .1)); idle = λ n. absurd (n d); blocked = λ z. absurd (omega arith) }
     go (no n) (yes d) =
-        let a = and-split (isIdle f t) _ (rw (ne-eqb k 2 n) at (s .0)) in
-        let l = eqb-true (w % 8) 4 (rw (eq-eqb k 1 d) at (a .1)) in
-        record { waits = λ z. absurd (n z); idle = λ z. (idle-is f t (a .0), omega arith); blocked = λ z. l }
+        let a = and-split (isTidy k w) (isIdle f t) (rw (ne-eqb k 2 n) at (s .0)) in
+        let l = eqb-true (w % 8) 4 (rw (eq-eqb k 1 d) at (a .0)) in
+        record { waits = λ z. absurd (n z); idle = λ z. (idle-is f t (a .1), omega arith); blocked = λ z. l }
     go (no n) (no m) =
-        let a = and-split (isIdle f t) _ (rw (ne-eqb k 2 n) at (s .0)) in
-        let l = eqb-true (w % 4) 0 (rw (ne-eqb k 1 m) at (a .1)) in
-        record { waits = λ z. absurd (n z); idle = λ z. (idle-is f t (a .0), l); blocked = λ z. absurd (m z) }
+        let a = and-split (isTidy k w) (isIdle f t) (rw (ne-eqb k 2 n) at (s .0)) in
+        let l = eqb-true (w % 4) 0 (rw (ne-eqb k 1 m) at (a .0)) in
+        record { waits = λ z. absurd (n z); idle = λ z. (idle-is f t (a .1), l); blocked = λ z. absurd (m z) }
 
 pub is-fitting : (k b w f t : ℕ) → w / 8192 ≤ b → Fits k w f t → (fitting k w f t && leb (w / 8192) b) ≡ true
-unfolding fitting
+unfolding fitting isTidy
 is-fitting k b w f t h x = rw (le-leb (w / 8192) b h, and-true, go (ℕ-discrete k 2) (ℕ-discrete k 1))
   where
     go : Dec (k ≡ 2) → Dec (k ≡ 1) → fitting k w f t ≡ true

@@ -27,9 +27,13 @@ isAsleep f t = eqb (f / 2) 3 || (eqb (f / 2) 1 && eqb t 0)
 unfoldable pub isIdle : ℕ → ℕ → Bool
 isIdle f t = eqb (f / 2) 0 && eqb t 0
 
+-- the low bits of a link w in a queue of kind k other than a condition's: failed in a lock's, and elsewhere either
+unfoldable pub isTidy : ℕ → ℕ → Bool
+isTidy k w = cond (eqb k 1) (eqb (w % 8) 4) (eqb (w % 4) 0)
+
 -- a record fits a queue of kind k: its link w, its flags f, its timer t
 unfoldable pub fitting : ℕ → ℕ → ℕ → ℕ → Bool
-fitting k w f t = cond (eqb k 2) (isAsleep f t && eqb (w % 8) 0) (isIdle f t && cond (eqb k 1) (eqb (w % 8) 4) (eqb (w % 4) 0))
+fitting k w f t = cond (eqb k 2) (isAsleep f t && eqb (w % 8) 0) (isTidy k w && isIdle f t)
 
 -- p's record fits, behind a process of priority b
 abbrev pub fitsIn : List ℕ → ℕ → ℕ → ℕ → Bool

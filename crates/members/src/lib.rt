@@ -1,13 +1,13 @@
 // The members of one ring: the ring is walked from its first to its tail, and each process marked as it is met. Assumes nothing.
 use area::layout;
 ghost use mathlib.Core.Path.{_≡_};
-ghost use mathlib.Core.Bool.{not, _&&_};
+ghost use mathlib.Core.Bool.{not};
 ghost use mathlib.Core.List.{List};
-ghost use Prim.Native.Nat.{ℕ, _+_, _*_, _/_, _%_, _≤_, _<_};
-ghost use lib.Dec.{eqb, leb};
+ghost use Prim.Native.Nat.{ℕ, _*_, _/_, _≤_, _<_};
+ghost use lib.Dec.{leb};
 ghost use lib.ListN.{length};
 ghost use Rattle.members.specs.Marks.{metIn, marked};
-ghost use Rattle.members.specs.Walk.{isEligible, isAsleep, isIdle, fitting, ringed, Met, Told};
+ghost use Rattle.members.specs.Walk.{isEligible, isAsleep, isIdle, isTidy, fitting, ringed, Met, Told};
 
 // A word of the table has 64 bits: the number of a bit has six.
 const SHIFT: usize = 6;
@@ -17,8 +17,11 @@ const MASK: usize = 63;
 // A word of the area has a number below this.
 const WORD: u32 = 65536;
 
-// Of the flags, above a link: all bits but abort; and the three lowest of the link.
-const FLAGGED: u32 = 4294836231;
+// All flags but armed and abort: in a condition they are waiting alone.
+const FIXED: u16 = 65530;
+
+// The highest time.
+const LATEST: u16 = 65535;
 
 // The answer where a ring is broken, above every number of processes.
 pub const BROKEN: usize = 1024;
@@ -52,29 +55,31 @@ fn eligible(processes: usize, holder: usize, p: usize) -> bool
     p != holder
 }
 
-// The flags but for abort, above the low bits of a link: as one number, which a compiler reads at once.
-fn flagged(link: u16, flags: u16) -> u32
-    ensures { λ r. ⌜ r ≡ flags / 2 * 131072 + link % 8 ⌝ }
+// Whether a process in a condition may have these flags and this timer: it waits, and has a timer only if it is armed. By armed, the highest timer is 0 or any.
+fn asleep(flags: u16, timer: u16) -> bool
+    ensures { λ r. ⌜ r ≡ isAsleep flags timer ⌝ }
 {
-    (flags as u32 * WORD + link as u32) & FLAGGED
-}
-
-// Whether a process in a condition may have this link, these flags and this timer: it waits, has a timer only if it is armed, and is not failed.
-fn asleep(link: u16, flags: u16, timer: u16) -> bool
-    ensures { λ r. ⌜ r ≡ isAsleep flags timer && eqb (link % 8) 0 ⌝ }
-{
-    let both = flagged(link, flags);
-    if both == layout::WAITING as u32 * WORD {
-        return timer == 0;
+    if flags & FIXED != layout::WAITING {
+        return false;
     }
-    both == (layout::WAITING + links::ARMED) as u32 * WORD
+    timer <= flags / links::ARMED * LATEST
 }
 
-// Whether a process in any other queue may have these flags and this timer, as one number: it does not wait, is not armed and has no timer.
+// Whether a process in any other queue may have them: it does not wait, is not armed and has no timer. The two words are asked as one number, which a compiler reads at once.
 fn idle(flags: u16, timer: u16) -> bool
     ensures { λ r. ⌜ r ≡ isIdle flags timer ⌝ }
 {
     timer as u32 * WORD + flags as u32 <= layout::ABORT as u32
+}
+
+// Whether a link in a queue other than a condition's has the low bits that it may have: in a lock's it is failed.
+fn tidy(kind: u16, link: u16) -> bool
+    ensures { λ r. ⌜ r ≡ isTidy kind link ⌝ }
+{
+    if kind == heads::LOCK {
+        return link & links::LOW == layout::FAILED;
+    }
+    link & layout::UNNAMED == 0
 }
 
 // Whether a record fits a queue of this kind.
@@ -82,15 +87,15 @@ fn fits(kind: u16, link: u16, flags: u16, timer: u16) -> bool
     ensures { λ r. ⌜ r ≡ fitting kind link flags timer ⌝ }
 {
     if kind == heads::CONDITION {
-        return asleep(link, flags, timer);
+        if !asleep(flags, timer) {
+            return false;
+        }
+        return link & links::LOW == 0;
     }
-    if !idle(flags, timer) {
+    if !tidy(kind, link) {
         return false;
     }
-    if kind == heads::LOCK {
-        return link & links::LOW == layout::FAILED;
-    }
-    link & layout::UNNAMED == 0
+    idle(flags, timer)
 }
 
 // Whether the priority in a link is not above that in the link before it. With all bits set below the latter, the words compare as they stand.
