@@ -12,7 +12,8 @@ use Rattle.area.specs.Reading.{Agree}
 use Rattle.area.specs.Sound.{Sound}
 use Rattle.area.proofs.Agreeing.{agree-back, sound-same}
 use Rattle.start.specs.Start.{Starts}
-use Rattle.monitor.specs.Calls.{Performs, ListsOn, TellsOn, SheetsOn, NearestOn}
+use Rattle.monitor.specs.Calls.{Performs}
+use Rattle.reads.specs.Reads.{ListsOn, TellsOn, SheetsOn, NearestOn}
 use Rattle.wire.specs.Wire.{packed, answerOf, reportOf, nearestOf}
 use Rattle.runs.specs.History.{Run}
 use Rattle.runs.specs.History.Run.{none, then}

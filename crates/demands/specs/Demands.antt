@@ -17,7 +17,8 @@ use Rattle.area.specs.Layout.{size}
 use Rattle.area.specs.Reading.{shapeOf, stateOf, Agree}
 use Rattle.area.specs.Sound.{Sound}
 use Rattle.start.specs.Start.{Starts}
-use Rattle.monitor.specs.Calls.{Performs, ListsOn, TellsOn, SheetsOn, NearestOn, Spares}
+use Rattle.monitor.specs.Calls.{Performs, Spares}
+use Rattle.reads.specs.Reads.{ListsOn, TellsOn, SheetsOn, NearestOn}
 use Rattle.wire.specs.Wire.{answerOf, reportOf, nearestOf}
 use Rattle.runs.specs.History as history
 use Rattle.runs.specs.Ticks.{WakesIn, Still, SleepsFor}

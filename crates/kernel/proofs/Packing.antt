@@ -12,7 +12,8 @@ use Rattle.model.specs.Machine.{fieldsOf}
 use Rattle.area.specs.Sound.{Sound}
 use Rattle.start.specs.Start.{Starts}
 use Rattle.timers.specs.declared.Earliest.{Earliest}
-use Rattle.monitor.specs.Calls.{Performs, ListsOn, TellsOn, SheetsOn, NearestOn}
+use Rattle.monitor.specs.Calls.{Performs}
+use Rattle.reads.specs.Reads.{ListsOn, TellsOn, SheetsOn, NearestOn}
 use Rattle.wire.specs.Wire.{packed, Carries, reportFields, nearestFields, numberOf}
 use Rattle.wire.proofs.Wire.{Fit, carries}
 use Rattle.runs.proofs.Promises.{performs-fits, starts-fits}

@@ -8,7 +8,8 @@ use Rattle.model.specs.declared.Call.{Call}
 use Rattle.model.specs.Machine.{fieldsOf}
 use Rattle.area.specs.Sound.{Sound}
 use Rattle.start.specs.Start.{Starts}
-use Rattle.monitor.specs.Calls.{Performs, ListsOn, TellsOn, SheetsOn, NearestOn}
+use Rattle.monitor.specs.Calls.{Performs}
+use Rattle.reads.specs.Reads.{ListsOn, TellsOn, SheetsOn, NearestOn}
 use Rattle.wire.specs.Wire.{Carries, reportFields, nearestFields}
 
 -- r carries an answer as promised: it is the number of the answer's fields, w bits each, and every field comes back out of it

@@ -150,26 +150,26 @@ pub extern "C" fn kernel_reenter(area: &mut [u16], lock: u16, condition: u16) ->
 pub extern "C" fn kernel_list(area: &[u16], kind: u16, number: u16, buffer: &mut [u16]) -> u64
     ensures { λ r. ⌜ Writes kind number (now (area .entry)) (now (buffer .entry)) (now (buffer .exit)) r ⌝ }
 {
-    wire::pack_list(monitor::list(area, kind, number, buffer))
+    wire::pack_list(reads::list(area, kind, number, buffer))
 }
 
 #[no_mangle]
 pub extern "C" fn kernel_due(area: &[u16], ticks: u16, buffer: &mut [u16]) -> u64
     ensures { λ r. ⌜ Dues ticks (now (area .entry)) (now (buffer .entry)) (now (buffer .exit)) r ⌝ }
 {
-    wire::pack_report(monitor::due(area, Ticks(ticks), buffer))
+    wire::pack_report(reads::due(area, Ticks(ticks), buffer))
 }
 
 #[no_mangle]
 pub extern "C" fn kernel_sheet(area: &[u16], page: &mut [u8]) -> u64
     ensures { λ r. ⌜ Pages (now (area .entry)) (now (page .entry)) (now (page .exit)) r ⌝ }
 {
-    wire::pack_report(monitor::sheet(area, page))
+    wire::pack_report(reads::sheet(area, page))
 }
 
 #[no_mangle]
 pub extern "C" fn kernel_nearest(area: &[u16]) -> u64
     ensures { λ r. ⌜ Nears (now (area .entry)) r ⌝ }
 {
-    wire::pack_nearest(monitor::nearest(area))
+    wire::pack_nearest(reads::nearest(area))
 }

@@ -1,49 +1,20 @@
--- What each of the nine calls and each read promises of the words: the papers' rules, on areas. Assumes nothing.
+-- What each of the twelve calls promises of the words: the papers' rules, on areas. Assumes nothing.
 use Prim.Native.Nat.{ℕ}
 use mathlib.Core.Path.{_≡_}
 use mathlib.Core.Logic.{_≢_}
 use mathlib.Core.List.{List}
-use Rattle.model.specs.declared.Shape.{Shape}
 use Rattle.model.specs.declared.Call.{Call}
 use Rattle.model.specs.declared.Answer.{Answer}
-use Rattle.model.specs.declared.Report.{Report}
-use Rattle.model.specs.Machine.{State, model, step, refusal}
-use Rattle.model.specs.Reports.{Refused}
+use Rattle.model.specs.Machine.{model, step, refusal}
 use Rattle.area.specs.State.{write}
 use Rattle.area.specs.Reading.{shapeOf, stateOf}
 use Rattle.area.specs.Sound.{Sound}
-use Rattle.queues.specs.Listing.{Lists}
-use Rattle.sheet.specs.Sheet.{Sheets}
-use Rattle.timers.specs.declared.Earliest.{Earliest}
-use Rattle.timers.specs.Telling.{Tells, nearestIn}
 
 -- an unsound area is refused by 1 and left as it is; a sound one gives the rule's answer and the words of the rule's state, with the words
 -- beyond as they were
 pub record Performs (c : Call) (old new : List ℕ) (a : Answer) : Type 0 where
   pub unsound : (Sound old → ⊥) → (a ≡ refusal 1) × (new ≡ old)
   pub sound : Sound old → (a ≡ (step model (shapeOf old) (stateOf old) c) .1) × (new ≡ write (shapeOf old) ((step model (shapeOf old) (stateOf old) c) .0) old)
-
--- a read into a buffer: an unsound area is refused by 1; of a sound one its state is told, as promised; a refusal changes nothing in the buffer
-pub record ReadsOn (told : Shape → State model → List ℕ → List ℕ → Report → Type 0) (ws old new : List ℕ) (r : Report) : Type 0 where
-  pub unsound : (Sound ws → ⊥) → Refused old new r 1
-  pub sound : Sound ws → told (shapeOf ws) (stateOf ws) old new r
-
--- List
-abbrev pub ListsOn : ℕ → ℕ → List ℕ → List ℕ → List ℕ → Report → Type 0
-ListsOn kind number = ReadsOn (Lists kind number)
-
--- who is due within k ticks
-abbrev pub TellsOn : ℕ → List ℕ → List ℕ → List ℕ → Report → Type 0
-TellsOn k = ReadsOn (Tells k)
-
--- the yard sheet, on a page of bytes
-abbrev pub SheetsOn : List ℕ → List ℕ → List ℕ → Report → Type 0
-SheetsOn = ReadsOn Sheets
-
--- who is the nearest: an unsound area is refused by 1; of a sound one its state is told
-pub record NearestOn (ws : List ℕ) (r : Earliest) : Type 0 where
-  pub unsound : (Sound ws → ⊥) → r ≡ record { code = 1; process = 0; left = 0 }
-  pub sound : Sound ws → r ≡ nearestIn (shapeOf ws) (stateOf ws)
 
 -- a refusal spares the words: a code other than 0 comes with zeros beside it, and every word is as it was
 abbrev pub Spares : Answer → List ℕ → List ℕ → Type 0

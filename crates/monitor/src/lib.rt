@@ -3,13 +3,11 @@ use model::Answer;
 use model::Call;
 use model::Priority;
 use model::Process;
-use model::Report;
 use model::Ticks;
-use timers::Earliest;
 ghost use mathlib.Core.Path.{_≡_};
 ghost use Rattle.model.specs.declared.Call.the-variants.{Enter, Exit, Wait, Notify, Broadcast, Naked, Requeue, SetPriority, Tick, Abort, SetAbortable, Reenter};
 ghost use Rattle.model.specs.Machine.{refusal};
-ghost use Rattle.monitor.specs.Calls.{Performs, ListsOn, TellsOn, SheetsOn, NearestOn};
+ghost use Rattle.monitor.specs.Calls.{Performs};
 
 // ---- the calls, each on any words: it is asked whether the area is sound, and the crate that has the call makes it
 
@@ -166,61 +164,4 @@ pub fn perform(area: &mut [u16], call: Call) -> Answer
         Call::SetAbortable { condition, value } => set_abortable(area, condition, value),
         Call::Reenter { lock, condition } => reenter(area, lock, condition),
     }
-}
-
-// ---- reads
-
-// What an unsound area is answered to a read into a buffer.
-fn unread() -> Report
-    ensures { λ r. ⌜ r ≡ record { code = 1; count = 0 } ⌝ }
-{
-    Report { code: 1, count: 0 }
-}
-
-// List: one queue, first to last, into the buffer.
-pub fn list(area: &[u16], kind: u16, number: u16, buffer: &mut [u16]) -> Report
-    ensures { λ r. ⌜ ListsOn kind number (now (area .entry)) (now (buffer .entry)) (now (buffer .exit)) r ⌝ }
-{
-    if !sound::sound(area) {
-        return unread();
-    }
-    let shape = area::shape_of(area);
-    queues::listing::list(area, shape, kind, number, buffer)
-}
-
-// Who is due within so many ticks, by ticks left and then by number, two words each into the buffer.
-pub fn due(area: &[u16], ticks: Ticks, buffer: &mut [u16]) -> Report
-    ensures { λ r. ⌜ TellsOn (ticks .0) (now (area .entry)) (now (buffer .entry)) (now (buffer .exit)) r ⌝ }
-{
-    if !sound::sound(area) {
-        return unread();
-    }
-    let shape = area::shape_of(area);
-    timers::due(area, shape, ticks, buffer)
-}
-
-// The yard sheet: a row for each queue, on a page of bytes.
-pub fn sheet(area: &[u16], page: &mut [u8]) -> Report
-    ensures { λ r. ⌜ SheetsOn (now (area .entry)) (now (page .entry)) (now (page .exit)) r ⌝ }
-{
-    if !sound::sound(area) {
-        return unread();
-    }
-    let shape = area::shape_of(area);
-    sheet::sheet(area, shape, page)
-}
-
-// Who is the nearest, and its ticks left.
-pub fn nearest(area: &[u16]) -> Earliest
-    ensures { λ r. ⌜ NearestOn (now (area .entry)) r ⌝ }
-{
-    if !sound::sound(area) {
-        return Earliest {
-            code: 1,
-            process: 0,
-            left: 0,
-        };
-    }
-    let shape = area::shape_of(area);
-    timers::nearest(area, shape)
 }

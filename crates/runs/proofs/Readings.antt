@@ -30,7 +30,7 @@ use Rattle.sheet.proofs.Rows.{page-length}
 use Rattle.timers.specs.declared.Earliest.{Earliest}
 use Rattle.timers.specs.Telling.{inWords, Tells, nearestIn}
 use Rattle.timers.proofs.Dues.{count-all, due-few}
-use Rattle.monitor.specs.Calls.{ReadsOn, ListsOn, TellsOn, SheetsOn, NearestOn}
+use Rattle.reads.specs.Reads.{ReadsOn, ListsOn, TellsOn, SheetsOn, NearestOn}
 use Rattle.wire.specs.Wire.{reportFields, nearestFields}
 use Rattle.wire.proofs.Wire.{Fit, reportFrom, earliestFrom}
 use Rattle.runs.proofs.Promises.{settle, lists?, unsound-same, fit?}

@@ -27,7 +27,8 @@ use Rattle.area.specs.Sound.{Sound}
 use Rattle.area.proofs.States.{sound-image}
 use Rattle.timers.specs.declared.Earliest.{Earliest}
 use Rattle.timers.specs.Telling.{inWords}
-use Rattle.monitor.specs.Calls.{Performs, TellsOn, NearestOn}
+use Rattle.monitor.specs.Calls.{Performs}
+use Rattle.reads.specs.Reads.{TellsOn, NearestOn}
 use Rattle.runs.specs.History.{Run}
 use Rattle.runs.specs.History.Run.{none, then}
 use Rattle.runs.specs.Ticks.{WakesIn, Still, Undisturbed, SleepsFor}

@@ -4,3 +4,4 @@ pub mod Visits
 pub mod Whole
 pub mod Passes
 pub mod Check
+pub mod Asked

@@ -1,9 +1,10 @@
--- `monitor::list` meets its contract: an unsound area is refused, and a sound one holds the state that it says, whose queue is listed.
+-- `reads::list` meets its contract: an unsound area is refused, and a sound one holds the state that it says, whose queue is listed.
 -- Assumes nothing.
 use borrow.Author.Needs.{needs}
-use Rattle.monitor.proofs.Performs.{counts-there, held-at, reads-not, reads-at}
-use Rattle.monitor.proofs.list.Statement.{statement}
-use Rattle.monitor.proofs.list.Tie as tie
+use Rattle.sound.proofs.Asked.{counts-there, held-at}
+use Rattle.reads.proofs.Reading.{reads-not, reads-at}
+use Rattle.reads.proofs.list.Statement.{statement}
+use Rattle.reads.proofs.list.Tie as tie
 
 sound-requires : tie.Need-sound-requires
 sound-requires c κs = search needs

@@ -1,9 +1,10 @@
--- `monitor::nearest` meets its contract: an unsound area is refused, and a sound one holds the state that it says, of which is told. Assumes nothing.
+-- `reads::nearest` meets its contract: an unsound area is refused, and a sound one holds the state that it says, of which is told. Assumes nothing.
 use mathlib.Core.Path.{refl}
 use borrow.Author.Needs.{needs}
-use Rattle.monitor.proofs.Performs.{counts-there, stands-at, nearest-not, nearest-at}
-use Rattle.monitor.proofs.nearest.Statement.{statement}
-use Rattle.monitor.proofs.nearest.Tie as tie
+use Rattle.sound.proofs.Asked.{counts-there, stands-at}
+use Rattle.reads.proofs.Reading.{nearest-not, nearest-at}
+use Rattle.reads.proofs.nearest.Statement.{statement}
+use Rattle.reads.proofs.nearest.Tie as tie
 
 returns : tie.Need-returns
 returns c = nearest-not (c .before .sound .ensures) (c .if1 .taken) refl

@@ -1,8 +1,9 @@
--- `monitor::due` meets its contract: an unsound area is refused, and a sound one holds the state that it says, of which is told. Assumes nothing.
+-- `reads::due` meets its contract: an unsound area is refused, and a sound one holds the state that it says, of which is told. Assumes nothing.
 use borrow.Author.Needs.{needs}
-use Rattle.monitor.proofs.Performs.{counts-there, stands-at, reads-not, reads-at}
-use Rattle.monitor.proofs.due.Statement.{statement}
-use Rattle.monitor.proofs.due.Tie as tie
+use Rattle.sound.proofs.Asked.{counts-there, stands-at}
+use Rattle.reads.proofs.Reading.{reads-not, reads-at}
+use Rattle.reads.proofs.due.Statement.{statement}
+use Rattle.reads.proofs.due.Tie as tie
 
 returns : tie.Need-returns
 returns c = reads-not (c .before .before .sound .ensures) (c .before .if1 .taken) (c .unread .ensures)

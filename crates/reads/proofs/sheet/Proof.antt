@@ -1,8 +1,9 @@
--- `monitor::sheet` meets its contract: an unsound area is refused, and a sound one holds the state that it says, whose sheet is printed. Assumes nothing.
+-- `reads::sheet` meets its contract: an unsound area is refused, and a sound one holds the state that it says, whose sheet is printed. Assumes nothing.
 use borrow.Author.Needs.{needs}
-use Rattle.monitor.proofs.Performs.{counts-there, held-at, reads-not, reads-at}
-use Rattle.monitor.proofs.sheet.Statement.{statement}
-use Rattle.monitor.proofs.sheet.Tie as tie
+use Rattle.sound.proofs.Asked.{counts-there, held-at}
+use Rattle.reads.proofs.Reading.{reads-not, reads-at}
+use Rattle.reads.proofs.sheet.Statement.{statement}
+use Rattle.reads.proofs.sheet.Tie as tie
 
 returns : tie.Need-returns
 returns c = reads-not (c .before .before .sound .ensures) (c .before .if1 .taken) (c .unread .ensures)
