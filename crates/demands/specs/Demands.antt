@@ -27,7 +27,7 @@ use Rattle.kernel.specs.Exports.{Crosses, Begins, Writes, Dues, Pages, Nears, J
 -- 1. Every area and every number is answered, since no export requires anything; and a wrong number gets the refusal that the rules of demand 2
 -- name. Besides:
 pub record Demand1 : Type 0 where
-  -- an unsound area gets refusal 1 from each of the nine calls and from each read, and Sound says no
+  -- an unsound area gets refusal 1 from each of the twelve calls and from each read, and Sound says no
   pub unsound-call : {c : Call} {old new : List ℕ} {r : ℕ} → Crosses c old new r → (Sound old → ⊥) → (answerOf r ≡ refusal 1) × (new ≡ old)
   pub unsound-list : {kind number : ℕ} {ws old new : List ℕ} {r : ℕ} → Writes kind number ws old new r → (Sound ws → ⊥) → Refused old new (reportOf 10 r) 1
   pub unsound-due : (k : ℕ) {ws old new : List ℕ} {r : ℕ} → Dues k ws old new r → (Sound ws → ⊥) → Refused old new (reportOf 20 r) 1
@@ -55,7 +55,7 @@ pub record Demand2 : Type 0 where
   pub nearest : {ws : List ℕ} {r : ℕ} → Nears ws r → NearestOn ws (nearestOf r)
   pub sound : {ws : List ℕ} {r : ℕ} → Judges ws r → (r ≡ 1) ↔ Sound ws
 
--- 3. Over every history: from an accepted Start, over every list of the nine calls made from C
+-- 3. Over every history: from an accepted Start, over every list of the twelve calls made from C
 abbrev pub Demand3 : Type 0
 Demand3 = history.Demand3 answerOf Begins Crosses
 

@@ -18,7 +18,7 @@ pub record Conveys {A : Type 0} (w : ℕ) (fields : A → List ℕ) (promised : 
   pub keeps : promised answer
   pub carries : Carries w r (fields answer)
 
--- one of the nine: an unsound area is refused by 1 and left as it is; a sound one gives the rule's answer and words
+-- one of the twelve calls: an unsound area is refused by 1 and left as it is; a sound one gives the rule's answer and words
 abbrev pub Crosses : Call → List ℕ → List ℕ → ℕ → Type 0
 Crosses c old new r = Conveys 10 fieldsOf (Performs c old new) r
 

@@ -16,7 +16,7 @@ use Rattle.model.specs.Field.Field.{clock, running, abort, holder}
 use Rattle.model.specs.Rules.{Effect, decide, nakedly, calm, called, due}
 use Rattle.model.specs.Rules.Effect.{refuse, accept}
 use Rattle.model.specs.Machine.{Machine, State, moves, refusal, obey, step, after, answers, locked}
-use Rattle.model.specs.History.{isEntry, isLeaving, tally}
+use Rattle.model.specs.History.{tries, leaves, isEntry, isLeaving, tally}
 use Rattle.model.proofs.Tests.{holds, fails, so, EqCase, eqb-case, eqb-no, put-here, put-away, not-false}
 use Rattle.model.proofs.Fields.{calm-away, dispatch-away}
 use Rattle.model.proofs.Accepted.{Accepted, accepted, when-by, choose-by, nakedly-by, enters-by, of-refuse}
@@ -78,18 +78,7 @@ decide-fair n s qs l (Reenter j c) =
     (λ _. accepted (λ a. rw and-false (keep (held s l)))) (λ _. enters-by j s (λ e a. taken s l j r e) (λ _ a. rw and-false (keep (held s l)))))))
 
 refusal-fair : (s : Fields) (l k : ℕ) (c : Call) → eqb k 0 ≡ false → Balanced s l c (refusal k) s
-refusal-fair s l k (Enter j) e = rw and-false (keep (held s l))
-refusal-fair s l k (Exit j) e = rw (e, and-false) (keep (held s l))
-refusal-fair s l k (Wait j c t) e = rw (e, and-false) (keep (held s l))
-refusal-fair s l k (Notify c) e = keep (held s l)
-refusal-fair s l k (Broadcast c) e = keep (held s l)
-refusal-fair s l k (Naked c) e = keep (held s l)
-refusal-fair s l k (Requeue a b p) e = keep (held s l)
-refusal-fair s l k (SetPriority v) e = keep (held s l)
-refusal-fair s l k Tick e = keep (held s l)
-refusal-fair s l k (Abort p) e = keep (held s l)
-refusal-fair s l k (SetAbortable c v) e = keep (held s l)
-refusal-fair s l k (Reenter j c) e = rw and-false (keep (held s l))
+refusal-fair s l k c e = rw (e, and-false (tries l c), and-false (leaves l c)) (keep (held s l))
 
 module _ (M : Machine) where
   obey-fair : (s : State M) (l : ℕ) (c : Call) (e : Effect) → Accepted (Fair (s .fields) l c) e → Balanced (s .fields) l c ((obey M s e) .1) ((obey M s e) .0 .fields)

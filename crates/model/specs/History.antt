@@ -19,35 +19,43 @@ use Rattle.model.specs.Valid.{Valid}
 
 -- ---- entries and leavings of a lock
 
+-- an Enter or a Reenter of lock l
+abbrev pub tries : ℕ → Call → Bool
+tries l (Enter j) = eqb j l
+tries l (Exit j) = false
+tries l (Wait j c t) = false
+tries l (Notify c) = false
+tries l (Broadcast c) = false
+tries l (Naked c) = false
+tries l (Requeue s d p) = false
+tries l (SetPriority v) = false
+tries l Tick = false
+tries l (Abort p) = false
+tries l (SetAbortable c v) = false
+tries l (Reenter j c) = eqb j l
+
+-- an Exit or a Wait that names it
+abbrev pub leaves : ℕ → Call → Bool
+leaves l (Enter j) = false
+leaves l (Exit j) = eqb j l
+leaves l (Wait j c t) = eqb j l
+leaves l (Notify c) = false
+leaves l (Broadcast c) = false
+leaves l (Naked c) = false
+leaves l (Requeue s d p) = false
+leaves l (SetPriority v) = false
+leaves l Tick = false
+leaves l (Abort p) = false
+leaves l (SetAbortable c v) = false
+leaves l (Reenter j c) = false
+
 -- an entry of lock l is an Enter or a Reenter of it with mark 1
 abbrev pub isEntry : ℕ → Call → Answer → Bool
-isEntry l (Enter j) a = eqb j l && eqb (a .mark) 1
-isEntry l (Exit j) a = false
-isEntry l (Wait j c t) a = false
-isEntry l (Notify c) a = false
-isEntry l (Broadcast c) a = false
-isEntry l (Naked c) a = false
-isEntry l (Requeue s d p) a = false
-isEntry l (SetPriority v) a = false
-isEntry l Tick a = false
-isEntry l (Abort p) a = false
-isEntry l (SetAbortable c v) a = false
-isEntry l (Reenter j c) a = eqb j l && eqb (a .mark) 1
+isEntry l c a = tries l c && eqb (a .mark) 1
 
 -- a leaving is an accepted Exit or Wait that names it
 abbrev pub isLeaving : ℕ → Call → Answer → Bool
-isLeaving l (Enter j) a = false
-isLeaving l (Exit j) a = eqb j l && eqb (a .code) 0
-isLeaving l (Wait j c t) a = eqb j l && eqb (a .code) 0
-isLeaving l (Notify c) a = false
-isLeaving l (Broadcast c) a = false
-isLeaving l (Naked c) a = false
-isLeaving l (Requeue s d p) a = false
-isLeaving l (SetPriority v) a = false
-isLeaving l Tick a = false
-isLeaving l (Abort p) a = false
-isLeaving l (SetAbortable c v) a = false
-isLeaving l (Reenter j c) a = false
+isLeaving l c a = leaves l c && eqb (a .code) 0
 
 -- how many of the calls are so answered
 abbrev pub tally : (Call → Answer → Bool) → List Call → List Answer → ℕ

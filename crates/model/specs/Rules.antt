@@ -72,7 +72,7 @@ calledOff s c = some (s (abort (s running))) && some (s (abortable c))
 abbrev pub abortably : Shape → Fields → (Queue → List ℕ) → ℕ → Bool
 abortably n s qs p = anyOf (n .conditions) (λ c. some (s (abortable c)) && member p (qs (condition c)))
 
--- then p, else nobody
+-- who wakes by an Abort of p: p, if it waits on an abortable condition, else nobody
 abbrev pub called : Shape → Fields → (Queue → List ℕ) → ℕ → List ℕ
 called n s qs p = cond (abortably n s qs p) (p ∷ []) []
 

@@ -1,4 +1,4 @@
--- Demand 3 on areas: what holds after an accepted Start and any list of the nine calls, refused ones among them. Assumes nothing.
+-- Demand 3 on areas: what holds after an accepted Start and any list of the twelve calls, refused ones among them. Assumes nothing.
 use Prim.Native.Nat.{ℕ, _+_}
 use mathlib.Core.Path.{_≡_}
 use mathlib.Core.Logic.{_≢_, _↔_}

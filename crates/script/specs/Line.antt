@@ -20,7 +20,7 @@ pub data Meaning : Type 0 where
 
 -- ---- names
 
--- each name in lower case
+-- the names in lower case; the later ones apart, as the code asks for them in a function of their own
 abbrev pub laterName : List ℕ → Name
 laterName w =
     cond (same w (bytesOf "requeue")) Requeue
