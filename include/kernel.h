@@ -104,7 +104,11 @@ uint64_t kernel_sound(const uint16_t *area, size_t len);
 
 /* The running process takes the lock (mark 1), or, where it is held, becomes failed and queues for it (mark 0): when it runs again the
  * answer has retry 1, and it must enter again. If it queues, KERNEL_AHEAD says how many stand before it: those of its priority or a
- * higher one. An abort makes no difference to it: the entry after a wait that may be called off is kernel_reenter. Codes: 1, 6, 7, 8. */
+ * higher one. An abort makes no difference to it: the entry after a wait that may be called off is kernel_reenter.
+ *
+ * Nobody is passed over: the (KERNEL_AHEAD + 1)th leaving of the lock from then on, an accepted kernel_exit or kernel_wait of it, brings
+ * the process into ready, and no earlier call does; each process of higher priority that joins the lock meanwhile makes it one leaving
+ * later. Codes: 1, 6, 7, 8. */
 uint64_t kernel_enter(uint16_t *area, size_t len, uint16_t lock);
 
 /* The running process leaves the lock; the first that queues for it, if any, comes into ready. Codes: 1, 6, 7, 9. */

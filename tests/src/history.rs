@@ -278,13 +278,13 @@ fn alarmed(random: &mut Random, state: &State, wrong: usize) -> u16 {
 }
 
 /// A lock that the running process holds.
-fn held(random: &mut Random, state: &State) -> Option<u16> {
+pub fn held(random: &mut Random, state: &State) -> Option<u16> {
     let mut locks: Vec<u16> = (1..=state.shape.locks).collect();
     locks.retain(|&lock| state.running != 0 && state.lock(lock).holder == state.running);
     (!locks.is_empty()).then(|| random.pick(&locks))
 }
 
-fn unpark(random: &mut Random, state: &State) -> Call {
+pub fn unpark(random: &mut Random, state: &State) -> Call {
     for park in 1..=state.shape.parks {
         if let Some(&process) = state.parks[usize::from(park) - 1].last() {
             return Call::Requeue {

@@ -43,6 +43,7 @@ fn suites() -> Vec<Suite> {
         ("list", suites::list::run),
         ("due and nearest", suites::timers::run),
         ("sleeps", suites::sleeps::run),
+        ("turns", suites::turns::run),
         ("sheet", suites::sheet::run),
         ("rehearse", suites::rehearse::run),
     ]

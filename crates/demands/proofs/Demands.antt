@@ -18,11 +18,12 @@ use Rattle.wire.specs.Wire.{packed, answerOf, reportOf, nearestOf}
 use Rattle.runs.specs.History.{Run}
 use Rattle.runs.specs.History.Run.{none, then}
 use Rattle.runs.proofs.History.{run-ends}
+use Rattle.runs.proofs.Turns.{all-turns}
 use Rattle.wire.proofs.Wire.{read-answer, read-report, read-nearest}
 use Rattle.runs.proofs.Promises.{performs-spares, starts-spares, performs-keeps, starts-keeps, performs-alike, starts-alike}
 use Rattle.runs.proofs.Readings.{reads-spares, reads-alike, lists-determined, tells-determined, sheets-determined, nearest-spares, nearest-alike}
 use Rattle.kernel.specs.Exports.{Conveys, Crosses, Begins, Writes, Dues, Pages, Nears, Judges}
-use Rattle.demands.specs.Demands.{Demand1, Demand2, Demand3, Beyond}
+use Rattle.demands.specs.Demands.{Demand1, Demand2, Demand3, Turns, Beyond}
 
 -- ---- what is read back keeps the promise
 
@@ -86,6 +87,9 @@ run-crossed (then C R) = then (crossed C) (run-crossed R)
 
 pub demand3 : Demand3
 demand3 = record { ends = λ B z R. run-ends (begun B) z (run-crossed R) }
+
+pub turns : Turns
+turns = all-turns answerOf (λ c old new r C. crossed C)
 
 judged-alike : {a b : List ℕ} {r s : ℕ} → Agree a b → Judges a r → Judges b s → r ≡ s
 judged-alike {a} {b} {r} {s} A J K = elim (ℕ-discrete r 1) [

@@ -1,6 +1,6 @@
--- The three demands, that whoever waits wakes on time, and that the words beyond an area's size are neither read nor changed: each a
--- statement about what the exports promise, over every area, of any length and content, and every number. They hold by
--- `crates/demands/proofs/Demands.antt`, and `OnTime` by `OnTime.antt` beside it. Assumes nothing.
+-- The three demands, that whoever waits wakes on time, that nobody is passed over at a lock, and that the words beyond an area's size are
+-- neither read nor changed: each a statement about what the exports promise, over every area, of any length and content, and every number.
+-- They hold by `crates/demands/proofs/Demands.antt`, and `OnTime` by `OnTime.antt` beside it. Assumes nothing.
 use Prim.Native.Nat.{ℕ, _+_, _*_, _≤_, _<_}
 use mathlib.Core.Path.{_≡_}
 use mathlib.Core.Logic.{_≢_, _↔_}
@@ -22,6 +22,7 @@ use Rattle.reads.specs.Reads.{ListsOn, TellsOn, SheetsOn, NearestOn}
 use Rattle.wire.specs.Wire.{answerOf, reportOf, nearestOf}
 use Rattle.runs.specs.History as history
 use Rattle.runs.specs.Ticks.{WakesIn, Still, SleepsFor}
+use Rattle.runs.specs.Turns as turns
 use Rattle.kernel.specs.Exports.{Crosses, Begins, Writes, Dues, Pages, Nears, Judges}
 
 -- 1. Every area and every number is answered, since no export requires anything; and a wrong number gets the refusal that the rules of demand 2
@@ -69,6 +70,11 @@ pub record OnTime : Type 0 where
   pub never : {ws : List ℕ} {r : ℕ} (k : ℕ) → Nears ws r → nearestOf r .code ≡ 0 → nearestOf r .process ≡ 0 → Still Crosses ws k
   pub wait : {l c : ℕ} {t : Ticks} {old new : List ℕ} {r : ℕ} → Crosses (Wait l c t) old new r → answerOf r .mark ≡ 1 → 1 ≤ t .0 → t .0 ≤ 65535
       → SleepsFor Crosses new (stateOf old .fields running) c (t .0)
+
+-- Nobody is passed over at a lock: whoever joins it with k ahead is brought into ready by its (k + 1)th leaving from then on and by no earlier
+-- call, as long as nobody of higher priority joins; each that does makes it one leaving later. In every run of the calls made from C
+abbrev pub Turns : Type 0
+Turns = turns.Turns answerOf Crosses
 
 -- The words beyond an area's size are never changed and never read: areas that agree below it are answered alike, and agree afterwards. Start
 -- reads no word that it finds: `overwrites` above

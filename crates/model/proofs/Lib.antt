@@ -16,3 +16,4 @@ pub mod Ticking
 pub mod Sleeping
 pub mod Reports
 pub mod Aborts
+pub mod Turns

@@ -29,7 +29,8 @@ held s l = bit (locked s l)
 abbrev Balanced : Fields → ℕ → Call → Answer → Fields → Type 0
 Balanced s l c a g = held s l + bit (isEntry l c a) ≡ bit (isLeaving l c a) + held g l
 
-abbrev accepting : ℕ → Answer → Answer
+-- an answer of an accepted call with mark k
+abbrev pub accepting : ℕ → Answer → Answer
 accepting k a = record { code = 0; running = a .running; retry = a .retry; mark = k; moved = a .moved; ahead = a .ahead }
 
 abbrev Fair : Fields → ℕ → Call → Fields → List Note → ℕ → Type 0

@@ -138,6 +138,10 @@ pub denied : (b : Bool) → (b ≡ true → ⊥) → b ≡ false
 denied true h = absurd (h refl)
 denied false h = refl
 
+pub granted : (b : Bool) → (b ≡ false → ⊥) → b ≡ true
+granted true h = refl
+granted false h = absurd (h refl)
+
 pub bit-split : (b : Bool) → 1 ≤ bit b → b ≡ true
 bit-split true h = refl
 bit-split false h = let z : ⊥ = omega arith in absurd z

@@ -5,10 +5,12 @@ use mathlib.Core.Path.{refl}
 use mathlib.Core.Bool.{cond}
 use mathlib.Core.List.{List, [], _∷_, _++_, map}
 use lib.Dec.{eqb}
+use lib.ListN.{getD}
 use Rattle.model.specs.declared.Shape.{Shape}
 use Rattle.model.specs.declared.Call.{Call}
 use Rattle.model.specs.declared.Call.the-variants.{Enter, Exit, Wait, Notify, Broadcast, Naked, Requeue, SetPriority, Tick, Abort, SetAbortable, Reenter}
-use Rattle.model.specs.Queue.{Queue}
+use Rattle.model.specs.declared.Answer.{Answer}
+use Rattle.model.specs.Queue.{Queue, bit}
 use Rattle.model.specs.Queue.Queue.{ready, park, lock, condition}
 use Rattle.model.specs.Field.{Field, Fields, put, priorities}
 use Rattle.model.specs.Field.Field.{clock, running, priority, armed, timer, failed, abort, holder, wakeup, abortable}
@@ -16,6 +18,7 @@ use Rattle.model.specs.Rules.{when, choose, nakedly, decide, startCode, 
 use Rattle.model.specs.Machine.{Machine, State, model, fieldsOf, start, step, after, answers}
 use Rattle.model.specs.Ledger.{ledger, reading}
 use Rattle.model.specs.Timers.{Entry, left, dueWithin}
+use Rattle.model.specs.History.{isEntry, isJoin, isLeaving, passes, tally}
 use Rattle.model.specs.Table.{Row, Holds}
 
 -- ---- a script: calls with their answers; then queues and fields as they must be left
@@ -51,6 +54,73 @@ abbrev late : (M : Machine) → State M
 late M =
     let s = after M (sized 3 1 1 0) ((start M (sized 3 1 1 0) (3 ∷ 3 ∷ 3 ∷ [])) .0) (Enter 1 ∷ []) in
     record { fields = put clock 65535 (s .fields); queues = s .queues }
+
+-- ---- turns at a lock
+
+-- 1 holds lock 1, and 2 and 3 queue; 4 comes with a higher priority and passes them; 5 has no lock to leave; 2 is aborted where it stands; 5 comes,
+-- behind them all. Four leavings bring them out, the first of the queue each: a holder's Exit, another's, one by Wait, and one where 5 is alone
+abbrev crowded : List Turn
+crowded =
+    gives (Enter 1) 0 1 0 1 0 0
+    ∷ gives (Requeue 0 0 (record { 0 = 1 })) 0 2 0 0 0 0
+    ∷ gives (Enter 1) 0 3 0 0 0 0
+    ∷ gives (Enter 1) 0 4 0 0 0 1
+    ∷ gives (SetPriority (record { 0 = 6 })) 0 4 0 0 0 0
+    ∷ gives (Reenter 1 1) 0 5 0 0 0 0
+    ∷ refuses (Exit 1) 9
+    ∷ gives (SetAbortable 1 1) 0 5 0 0 0 0
+    ∷ gives (Abort (record { 0 = 2 })) 0 5 0 0 0 0
+    ∷ gives (Enter 1) 0 1 0 0 0 3
+    ∷ refuses (Enter 1) 8
+    ∷ gives (Exit 1) 0 4 1 0 1 0
+    ∷ gives (Enter 1) 0 4 0 1 0 0
+    ∷ gives (Exit 1) 0 4 0 0 1 0
+    ∷ gives (Enter 1) 0 4 0 1 0 0
+    ∷ gives (Wait 1 1 (record { 0 = 0 })) 0 1 0 1 1 0
+    ∷ gives (Enter 1) 0 1 0 1 0 0
+    ∷ gives (Exit 1) 0 1 0 0 1 0
+    ∷ []
+
+abbrev turns : Machine → Row
+turns M = play M (sized 5 1 1 0) (3 ∷ 3 ∷ 3 ∷ 3 ∷ 3 ∷ []) crowded
+    ((ready, 1 ∷ 2 ∷ 3 ∷ 5 ∷ []) ∷ (lock 1, []) ∷ (condition 1, 4 ∷ []) ∷ [])
+    ((running, 1) ∷ (holder 1, 0) ∷ (failed 2, 1) ∷ (abort 2, 1) ∷ [])
+
+-- an answer's code and mark, and zeros beside them
+abbrev marked : ℕ → ℕ → Answer
+marked code mark = record { code = code; running = 0; retry = 0; mark = mark; moved = 0; ahead = 0 }
+
+-- how many of the calls, by the code and the mark of each, enter the lock, join its queue and leave it
+abbrev counted : Row
+counted =
+    let calls = map (λ (t : Turn). t .0) crowded in
+    let told = map (λ (t : Turn). marked (getD (t .1) 0 0) (getD (t .1) 3 0)) crowded in
+    record { come = (tally (isEntry 1) calls told ∷ tally (isJoin 1) calls told ∷ tally (isLeaving 1) calls told ∷ []) ∷ []; must = (4 ∷ 4 ∷ 4 ∷ []) ∷ [] }
+
+-- an entry has mark 1: not 0, with which its caller queues, nor 2, with which it is called off
+abbrev entered : Row
+entered = record { come = map (λ k. bit (isEntry 1 (Reenter 1 1) (marked 0 k))) (0 ∷ 1 ∷ 2 ∷ []) ∷ []; must = (0 ∷ 1 ∷ 0 ∷ []) ∷ [] }
+
+-- 1, which runs with priority v, passes 2, of priority 3, over by this call with this code and mark
+abbrev passed : ℕ → Call → ℕ → ℕ → ℕ
+passed v c code mark = bit (passes (put running 1 (put (priority 1) v (put (priority 2) 3 (fresh [])))) 2 1 c (marked code mark))
+
+-- who joins with a higher priority does, and nobody else
+abbrev passers : Row
+passers = record {
+  come = (passed 4 (Enter 1) 0 0 ∷ passed 4 (Reenter 1 1) 0 0 ∷ passed 3 (Enter 1) 0 0 ∷ passed 2 (Enter 1) 0 0 ∷ passed 4 (Enter 1) 0 1 ∷ passed 4 (Enter 1) 8 0 ∷ passed 4 (Enter 2) 0 0 ∷ passed 4 (Exit 1) 0 0 ∷ []) ∷ [];
+  must = (1 ∷ 1 ∷ 0 ∷ 0 ∷ 0 ∷ 0 ∷ 0 ∷ 0 ∷ []) ∷ [];
+}
+
+-- each has its turn, on both machines
+in-turn : Holds (turns model ∷ turns ledger ∷ [])
+unfolding step decide when choose nakedly reading ℕ-discrete
+in-turn = refl
+
+-- what is an entry, a join, a leaving, and a passing
+what-counts : Holds (counted ∷ entered ∷ passers ∷ [])
+unfolding ℕ-discrete
+what-counts = refl
 
 -- ---- the scripts
 

@@ -4,20 +4,20 @@ use mathlib.Core.Path.{_≡_}
 use mathlib.Core.Logic.{_≢_, _↔_}
 use mathlib.Core.Bool.{Bool, true, false, _&&_}
 use mathlib.Core.List.{List, [], _∷_}
-use lib.Dec.{eqb}
+use lib.Dec.{eqb, ltb}
 use Rattle.model.specs.declared.Shape.{Shape}
 use Rattle.model.specs.declared.Call.{Call}
 use Rattle.model.specs.declared.Call.the-variants.{Enter, Exit, Wait, Notify, Broadcast, Naked, Requeue, SetPriority, Tick, Abort, SetAbortable, Reenter}
 use Rattle.model.specs.declared.Answer.{Answer}
 use Rattle.model.specs.Queue.{Queue, inside, anyOf, bit, same, exists, count, first, All}
 use Rattle.model.specs.Queue.Queue.{ready, condition}
-use Rattle.model.specs.Field.{priorities}
-use Rattle.model.specs.Field.Field.{running}
+use Rattle.model.specs.Field.{Fields, priorities}
+use Rattle.model.specs.Field.Field.{running, priority}
 use Rattle.model.specs.Machine.{Machine, State, model, start, after, answers, locked, waiting}
 use Rattle.model.specs.Ledger.{ledger, reading, lies}
 use Rattle.model.specs.Valid.{Valid}
 
--- ---- entries and leavings of a lock
+-- ---- entries, joins and leavings of a lock
 
 -- an Enter or a Reenter of lock l
 abbrev pub tries : ℕ → Call → Bool
@@ -52,6 +52,14 @@ leaves l (Reenter j c) = false
 -- an entry of lock l is an Enter or a Reenter of it with mark 1
 abbrev pub isEntry : ℕ → Call → Answer → Bool
 isEntry l c a = tries l c && eqb (a .mark) 1
+
+-- a join of its queue is an accepted one of them with mark 0
+abbrev pub isJoin : ℕ → Call → Answer → Bool
+isJoin l c a = tries l c && (eqb (a .code) 0 && eqb (a .mark) 0)
+
+-- a call, made in these fields, passes p over: a process of higher priority joins
+abbrev pub passes : Fields → ℕ → ℕ → Call → Answer → Bool
+passes s p l c a = isJoin l c a && ltb (s (priority p)) (s (priority (s running)))
 
 -- a leaving is an accepted Exit or Wait that names it
 abbrev pub isLeaving : ℕ → Call → Answer → Bool

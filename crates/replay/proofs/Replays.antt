@@ -1,5 +1,5 @@
 -- A log's calls, one after the other: how each return of the code meets the log's definitions, how a run grows at its end, the invariant of the
--- loop, and demand 3 on a log. Assumes nothing.
+-- loop, and demand 3 and turns on a log. Assumes nothing.
 use Prim.Native.Nat.{ℕ, suc, _+_, _-_, _*_, _/_, _<_, _≤_}
 use native.Mathlib.Omega.{arith}
 use mathlib.Core.Path.{_≡_, refl, sym, ap, _∙_, subst}
@@ -20,10 +20,11 @@ use Rattle.runs.specs.History.Run.{none, then}
 use Rattle.wire.specs.Wire.{numberOf, answerOf}
 use Rattle.wire.proofs.Wire.{carries, read-answer}
 use Rattle.runs.proofs.History.{run-ends}
+use Rattle.runs.proofs.Turns.{all-turns}
 use Rattle.runs.proofs.Promises.{performs-fits}
 use Rattle.replay.specs.declared.Record.{Record}
 use Rattle.replay.specs.declared.Record.the-variants.{Made, Malformed}
-use Rattle.replay.specs.Replay.{none2, none3, pick, made, operation, recorded, firstOf, follow, logged, Served, Replayed, LogDemand3}
+use Rattle.replay.specs.Replay.{none2, none3, pick, made, operation, recorded, firstOf, follow, logged, Served, Replayed, LogDemand3, LogTurns}
 
 -- ---- a run
 
@@ -271,3 +272,8 @@ pub log-demand3 : LogDemand3
 log-demand3 = record {
   ends = λ {n} {bytes} {old} {begun} {new} {log} {oldAnswers = out} {newAnswers} {a} S z R. subst (λ (l : List Answer). Ends n bytes a (logged (length out) log) l new) (front R) (run-ends S z (R .run));
 }
+
+-- ---- turns
+
+pub log-turns : LogTurns
+log-turns = record { written = front; turn = λ R. all-turns (λ (a : Answer). a) (λ c old new a P. P) .turn (R .run) }

@@ -12,6 +12,7 @@ use Rattle.model.specs.declared.Answer.{Answer}
 use Rattle.start.specs.Start.{Starts}
 use Rattle.monitor.specs.Calls.{Performs}
 use Rattle.runs.specs.History.{Run, Ends}
+use Rattle.runs.specs.Turns.{InTurn}
 use Rattle.wire.specs.Wire.{numberOf, answerOf}
 use Rattle.replay.specs.declared.Record.{Record}
 use Rattle.replay.specs.declared.Record.the-variants.{Made, Malformed}
@@ -91,3 +92,8 @@ pub record LogDemand3 : Type 0 where
   pub ends : {n : Shape} {bytes old begun new log oldAnswers newAnswers : List ℕ} {a : Answer} {r : ℕ}
       → Starts n bytes old begun a → a .code ≡ 0 → Replayed log begun new oldAnswers newAnswers r
       → Ends n bytes a (logged (length oldAnswers) log) (map answerOf (take r newAnswers)) new
+
+-- turns in a log: its run, from whatever area, has the answers that are written, and whoever joins a lock in it has its turn
+pub record LogTurns : Type 0 where
+  pub written : {log old new oldAnswers newAnswers : List ℕ} {r : ℕ} (R : Replayed log old new oldAnswers newAnswers r) → R .answers ≡ map answerOf (take r newAnswers)
+  pub turn : {log old new oldAnswers newAnswers : List ℕ} {r : ℕ} (R : Replayed log old new oldAnswers newAnswers r) → InTurn (λ (a : Answer). a) (R .run)

@@ -30,7 +30,7 @@ use Rattle.area.specs.State.{laid, write}
 use Rattle.area.specs.Reading.{shapeOf, partsOf, stateOf}
 use Rattle.area.specs.Sound.{Says, Sound}
 use Rattle.area.proofs.Whole.{write-image, image-shape}
-use Rattle.area.proofs.States.{laid-spans, state-read, state-says, image-sound}
+use Rattle.area.proofs.States.{laid-spans, state-read, state-says, image-sound, sound-image}
 use Rattle.start.specs.Start.{startOn, Starts}
 use Rattle.monitor.specs.Calls.{Performs}
 use Rattle.runs.specs.History.{Run, Ends, Demand3}
@@ -40,6 +40,10 @@ use Rattle.runs.specs.History.Run.{none, then}
 pub record Keeps (n : Shape) (ws : List ℕ) (s : State model) : Type 0 where
   pub valid : Valid n s
   pub image : Image n ws (laid n s)
+
+-- a sound area is the words of its own state
+pub own : {ws : List ℕ} → Sound ws → Keeps (shapeOf ws) ws (stateOf ws)
+own {ws} S = record { valid = S .valid; image = sound-image ws S }
 
 -- the words of a valid state, written over any area that is long enough
 pub written : (n : Shape) (old : List ℕ) (s : State model) → Valid n s → size n ≤ length old → Keeps n (write n s old) s

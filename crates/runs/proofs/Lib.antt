@@ -2,3 +2,4 @@ pub mod History
 pub mod Promises
 pub mod Readings
 pub mod Ticks
+pub mod Turns

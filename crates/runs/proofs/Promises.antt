@@ -5,7 +5,7 @@ use native.Mathlib.Decide.{ℕ-discrete, decLt}
 use native.Mathlib.Omega.{arith}
 use mathlib.Core.Path.{_≡_, refl, sym, ap, _∙_}
 use mathlib.Core.Logic.{Dec·and}
-use mathlib.Core.Bool.{Bool, true, false, not, cond}
+use mathlib.Core.Bool.{Bool, true, false, not, cond, false≢true}
 use mathlib.Core.List.{List, [], _∷_, map}
 use lib.Dec.{eqb, ltb}
 use lib.ListN.{length, getD, take, drop}
@@ -37,6 +37,15 @@ settle d f g = elim d [
   | yes x ↦ x
   | no n ↦ g (λ s. n (f s))
 ]
+
+-- an area that cannot be unsound will do for a sound one
+pub sure : {ws : List ℕ} {X : Type 0} → ((Sound ws → ⊥) → ⊥) → Dec X → (Sound ws → X) → X
+sure N d f = settle d f (λ u. absurd (N u))
+
+-- whether a test passed
+pub passed? : (b : Bool) → Dec (b ≡ true)
+passed? true = yes refl
+passed? false = no false≢true
 
 pub lists? : (xs ys : List ℕ) → Dec (xs ≡ ys)
 lists? [] [] = yes refl

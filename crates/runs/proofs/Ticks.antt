@@ -3,9 +3,9 @@
 use Prim.Native.Nat.{ℕ, zero, suc, _+_, _-_, _*_, _≤_, _<_}
 use native.Mathlib.Decide.{decLt}
 use native.Mathlib.Omega.{arith}
-use mathlib.Core.Path.{_≡_, refl, sym, ap, _∙_, subst}
+use mathlib.Core.Path.{_≡_, sym, ap, _∙_, subst}
 use mathlib.Core.Logic.{_≢_}
-use mathlib.Core.Bool.{Bool, true, false, false≢true}
+use mathlib.Core.Bool.{true}
 use mathlib.Core.List.{List, [], _∷_, _++_}
 use lib.ListN.{length, getD, drop}
 use Rattle.model.specs.declared.Shape.{Shape}
@@ -24,7 +24,6 @@ use Rattle.model.proofs.Ticking.{seat, left-waits, tick-wakes, ticks-stay, tick
 use Rattle.model.proofs.Sleeping.{Lets, awaits, call-lets, wait-left}
 use Rattle.area.specs.Reading.{shapeOf, stateOf}
 use Rattle.area.specs.Sound.{Sound}
-use Rattle.area.proofs.States.{sound-image}
 use Rattle.timers.specs.declared.Earliest.{Earliest}
 use Rattle.timers.specs.Telling.{inWords}
 use Rattle.monitor.specs.Calls.{Performs}
@@ -32,38 +31,24 @@ use Rattle.reads.specs.Reads.{TellsOn, NearestOn}
 use Rattle.runs.specs.History.{Run}
 use Rattle.runs.specs.History.Run.{none, then}
 use Rattle.runs.specs.Ticks.{WakesIn, Still, Undisturbed, SleepsFor}
-use Rattle.runs.proofs.History.{Keeps, keeps-shape, keeps-state, step-answer, step-keeps, run-keeps}
-use Rattle.runs.proofs.Promises.{settle, lists?}
+use Rattle.runs.proofs.History.{Keeps, own, keeps-shape, keeps-state, step-answer, step-keeps, run-keeps}
+use Rattle.runs.proofs.Promises.{sure, passed?, lists?}
 
 -- ---- from a sound area
 
-module _ {ws : List ℕ} (S : Sound ws) where
-  -- it is the words of its own state
-  own : Keeps (shapeOf ws) ws (stateOf ws)
-  own = record { valid = S .valid; image = sound-image ws S }
-
-  -- Ticks leave the words of the state that they come to
-  ticks-state : (k : ℕ) {new : List ℕ} {rs : List Answer} → Run Performs (ticks k) ws new rs → stateOf new ≡ after model (shapeOf ws) (stateOf ws) (ticks k)
-  ticks-state k R = keeps-state (run-keeps (stateOf ws) own R)
+-- Ticks leave the words of the state that they come to
+ticks-state : {ws : List ℕ} (S : Sound ws) (k : ℕ) {new : List ℕ} {rs : List Answer} → Run Performs (ticks k) ws new rs → stateOf new ≡ after model (shapeOf ws) (stateOf ws) (ticks k)
+ticks-state {ws} S k R = keeps-state (run-keeps (stateOf ws) (own S) R)
 
 -- ---- from an area that cannot be unsound
 
--- whether a test passed
-passed? : (b : Bool) → Dec (b ≡ true)
-passed? true = yes refl
-passed? false = no false≢true
-
 module _ {ws : List ℕ} (N : (Sound ws → ⊥) → ⊥) where
-  -- what can be decided holds if it holds of a sound area
-  sure : {X : Type 0} → Dec X → (Sound ws → X) → X
-  sure d f = settle d f (λ u. absurd (N u))
-
   -- who has d ticks left wakes in the d-th Tick
   left-wakes : {p d : ℕ} → (Sound ws → Exact (shapeOf ws) (stateOf ws) (p, d)) → WakesIn Performs ws p d
   left-wakes {p} {d} E = record {
     condition = seat (shapeOf ws) (stateOf ws) p;
-    waits = λ {k} {new} h R. sure (passed? (member p (stateOf new .queues (condition (seat (shapeOf ws) (stateOf ws) p))))) (λ S. waits-yet S (E S) h R);
-    wakes = λ {new} R. sure (passed? (member p (stateOf new .queues ready))) (λ S. comes S (E S) R);
+    waits = λ {k} {new} h R. sure N (passed? (member p (stateOf new .queues (condition (seat (shapeOf ws) (stateOf ws) p))))) (λ S. waits-yet S (E S) h R);
+    wakes = λ {new} R. sure N (passed? (member p (stateOf new .queues ready))) (λ S. comes S (E S) R);
   }
     where
       waits-yet : (S : Sound ws) {k : ℕ} {new : List ℕ} {rs : List Answer} → Exact (shapeOf ws) (stateOf ws) (p, d) → k < d → Run Performs (ticks k) ws new rs
@@ -78,7 +63,7 @@ module _ {ws : List ℕ} (N : (Sound ws → ⊥) → ⊥) where
 
   -- where everyone who has ticks left has more than k, k Ticks move nobody
   none-moves : (k : ℕ) → (Sound ws → (p : ℕ) → left (shapeOf ws) (stateOf ws) p ≢ 0 → k < left (shapeOf ws) (stateOf ws) p) → Still Performs ws k
-  none-moves k H new rs R q = sure (lists? (stateOf new .queues q) (stateOf ws .queues q))
+  none-moves k H new rs R q = sure N (lists? (stateOf new .queues q) (stateOf ws .queues q))
       (λ S. ap {A = State model} (λ t. t .queues q) (ticks-state S k R) ∙ ticks-still (shapeOf ws) k (stateOf ws) (S .valid) (H S) q)
 
 -- ---- who is due

@@ -1,2 +1,3 @@
 pub mod History
 pub mod Ticks
+pub mod Turns

@@ -68,7 +68,7 @@ fn through_rehearse(tally: &mut Tally) -> Outcome {
 }
 
 /// Ten bits a field, and what stands above the six.
-fn unpack(answer: u64) -> [u64; 7] {
+pub fn unpack(answer: u64) -> [u64; 7] {
     std::array::from_fn(|place| answer >> (10 * place) & 1023)
 }
 

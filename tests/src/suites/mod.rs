@@ -13,6 +13,7 @@ pub mod sound;
 pub mod start;
 pub mod table;
 pub mod timers;
+pub mod turns;
 
 use std::fmt::Debug;
 

@@ -380,13 +380,19 @@ fn longest_waits(tally: &mut Tally) -> Outcome {
 
 // Ticks.
 
-/// The members of a queue of the library's area, in process order.
-pub fn members(area: &[u16], kind: u16, number: u16) -> Vec<u16> {
+/// A queue of the library's area, from its first to its last.
+pub fn queue(area: &[u16], kind: u16, number: u16) -> Vec<u16> {
     let mut buffer = vec![0; 1_023];
     let count = library::list(area, kind, number, &mut buffer) >> 10;
     buffer.truncate(count as usize);
-    buffer.sort();
     buffer
+}
+
+/// The members of a queue of the library's area, in process order.
+pub fn members(area: &[u16], kind: u16, number: u16) -> Vec<u16> {
+    let mut members = queue(area, kind, number);
+    members.sort();
+    members
 }
 
 /// One Tick on the library; answers how many it moved.
