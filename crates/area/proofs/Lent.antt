@@ -11,10 +11,9 @@ use Rattle.model.specs.Queue.{inside}
 use Rattle.model.specs.Field.Field.{priority, timer}
 use Rattle.model.proofs.Tests.{inside-bounds}
 use Rattle.links.specs.Link.{slot}
-use Rattle.area.specs.declared.places.Place.{Place}
 use Rattle.area.specs.Layout.{Part, Parts, alter, unit, span, home, has, at, recordsAt, Lies, Flag, Image, Stored}
 use Rattle.area.specs.Layout.Part.{kept}
-use Rattle.area.specs.Layout.Slot.{Flags, Timer}
+use Rattle.area.specs.Layout.Slot.{Timer}
 use Rattle.area.proofs.Stores.{store, place-power, place-fits, place-room}
 
 set-behind : (xs ys : List ℕ) (j v : ℕ) → set (xs ++ ys) (length xs + j) v ≡ xs ++ set ys j v

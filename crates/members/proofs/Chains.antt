@@ -10,7 +10,7 @@ use lib.Dec.{eqb}
 use lib.ListN.{length, getD}
 use Rattle.model.specs.Queue.{inside, bit, member, count, All, Falling}
 use Rattle.model.proofs.Tests.{eqb-no, bit-small, inside-bounds}
-use Rattle.model.proofs.Lists.{all-map, member-here, member-there, member-count, absent-count, member-bit, at-most}
+use Rattle.model.proofs.Lists.{all-map, member-here, member-count, absent-count, member-bit, at-most, members-all}
 use Rattle.links.specs.Link.{slot, link, next, priority}
 use Rattle.ring.specs.Ring.{lastOf, Linked}
 use Rattle.area.proofs.Rings.{Once, once-apart, last-member}
@@ -23,18 +23,6 @@ abbrev pub Words : List ℕ → Type 0
 Words ws = (i : ℕ) → getD ws i 0 < 65536
 
 -- ---- lists
-
-pub all-member : (T : ℕ → Type 0) (xs : List ℕ) → All T xs → (x : ℕ) → member x xs ≡ true → T x
-all-member T (y ∷ xs) h x m = go (ℕ-discrete y x) (all-member T xs (h .1) x)
-  where
-    go : Dec (y ≡ x) → (member x xs ≡ true → T x) → T x
-    go (yes e) ih = rw (← e) (h .0)
-    go (no n) ih = ih (rw (eqb-no y x n) at m)
-all-member T [] h x m = absurd (let z : _≡_ {A = Bool} false true = m in let y : _≡_ {A = ℕ} 0 1 = cc in omega arith)
-
-pub member-all : (T : ℕ → Type 0) (xs : List ℕ) → ((x : ℕ) → member x xs ≡ true → T x) → All T xs
-member-all T [] h = tt
-member-all T (y ∷ xs) h = (h y (member-here y xs), member-all T xs (λ x m. h x (member-there x y xs m)))
 
 -- ys put before js, one by one
 pub onto : List ℕ → List ℕ → List ℕ
@@ -167,7 +155,7 @@ module _ (rs : List ℕ) (P k o t : ℕ) where
   unfolding onto priority
   ring-full small [] js R c = ring-empty rs P k o t js (sym (R .ends))
   ring-full small (y ∷ ys) js R c =
-      let in-tail = all-member (Member rs P k o) (y ∷ ys) (R .members) (lastOf y ys) (last-member y ys) in
+      let in-tail = members-all (Member rs P k o) (y ∷ ys) (R .members) (lastOf y ys) (last-member y ys) in
       let one = inside-bounds P (lastOf y ys) (in-tail .within) in
       let end = R .ends in
       let few = at-most P (onto (y ∷ ys) js) (λ x. rw (count-onto x (y ∷ ys) js) (c x)) in

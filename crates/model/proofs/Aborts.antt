@@ -1,8 +1,8 @@
 -- Abort in a valid state, of a process that stands anywhere but in an abortable condition: its bit is set, and nothing else changes. Nobody is
 -- called, so nobody moves, and dispatch finds who runs as it was. Assumes nothing.
 use Prim.Native.Nat.{ℕ}
-use mathlib.Core.Path.{_≡_, refl, sym, ap, _∙_}
-use mathlib.Core.Bool.{true, false, not, _&&_, true≢false}
+use mathlib.Core.Path.{_≡_, sym, ap, _∙_}
+use mathlib.Core.Bool.{true, false, _&&_, true≢false}
 use mathlib.Core.List.{[]}
 use Rattle.model.specs.declared.Shape.{Shape}
 use Rattle.model.specs.declared.Process.{Process}
@@ -10,7 +10,7 @@ use Rattle.model.specs.declared.Call.the-variants.{Abort}
 use Rattle.model.specs.Queue.{Queue, inside, outside, member}
 use Rattle.model.specs.Queue.Queue.{ready, condition}
 use Rattle.model.specs.Field.{Fields, put, some}
-use Rattle.model.specs.Field.Field.{running, failed, abort, abortable}
+use Rattle.model.specs.Field.Field.{failed, abort, abortable}
 use Rattle.model.specs.Rules.{Effect, when, decide, abortably}
 use Rattle.model.specs.Rules.Effect.{accept}
 use Rattle.model.specs.Machine.{State, model, obey, step}

@@ -1,7 +1,7 @@
 -- Lists of processes: what remove and insert leave of counts, membership and the falling order. By induction on the list. Assumes nothing.
 use Prim.Native.Nat.{ℕ, zero, suc, _+_, _≤_, _<_}
 use native.Mathlib.Omega.{arith}
-use mathlib.Core.Path.{_≡_, refl, ap, sym, _∙_}
+use mathlib.Core.Path.{_≡_, refl, ap, sym, _∙_, subst}
 use mathlib.Core.Logic.{_≢_}
 use mathlib.Core.Bool.{Bool, true, false, _||_, cond, or-false, or-true, or-assoc, false≢true}
 use mathlib.Core.List.{List, [], _∷_, _++_}
@@ -130,6 +130,13 @@ insert-member pr x p xs z m =
     let c : count x (insert pr p xs) ≡ bit false + count x xs = count-insert pr x p xs ∙ rw z in
     counted-member x xs (omega arith)
 
+-- who was there is there when p has come, and so is p
+pub insert-keeps : (pr : ℕ → ℕ) (x p : ℕ) (xs : List ℕ) → member x xs ≡ true → member x (insert pr p xs) ≡ true
+insert-keeps pr x p xs m = let k = member-count x xs m in let c = count-insert pr x p xs in counted-member x (insert pr p xs) (omega arith)
+
+pub insert-there : (pr : ℕ → ℕ) (p : ℕ) (xs : List ℕ) → member p (insert pr p xs) ≡ true
+insert-there pr p xs = let c : count p (insert pr p xs) ≡ bit true + count p xs = count-insert pr p p xs ∙ rw (eqb-yes p p refl) in counted-member p (insert pr p xs) (omega arith)
+
 -- a list without members is empty
 pub nobody : (xs : List ℕ) → ((p : ℕ) → member p xs ≡ false) → xs ≡ []
 nobody [] h = refl
@@ -239,6 +246,20 @@ all-left P (x ∷ xs) ys h = (h .0, all-left P xs ys (h .1))
 pub all-right : {A : Type 0} (P : A → Type 0) (xs ys : List A) → All P (xs ++ ys) → All P ys
 all-right P [] ys h = h
 all-right P (x ∷ xs) ys h = all-right P xs ys (h .1)
+
+module _ (P : ℕ → Type 0) where
+  -- of each member, and of all
+  pub all-members : (xs : List ℕ) → ((x : ℕ) → member x xs ≡ true → P x) → All P xs
+  all-members [] h = tt
+  all-members (x ∷ xs) h = (h x (member-here x xs), all-members xs (λ y m. h y (member-there y x xs m)))
+
+  pub members-all : (xs : List ℕ) → All P xs → (x : ℕ) → member x xs ≡ true → P x
+  members-all [] h x m = absurd (false≢true m)
+  members-all (y ∷ ys) h x m = go (eqb-case y x) (λ k. members-all ys (h .1) x k)
+    where
+      go : EqCase y x → (member x ys ≡ true → P x) → P x
+      go (holds d e) ih = subst P d (h .0)
+      go (fails d e) ih = ih (rw e at m)
 
 all-remove : (P Q : ℕ → Type 0) (p : ℕ) → ((y : ℕ) → y ≢ p → P y → Q y) → (xs : List ℕ) → All P xs → All Q (remove p xs)
 all-remove P Q p f [] h = tt

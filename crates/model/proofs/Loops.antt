@@ -11,7 +11,6 @@ use Rattle.model.specs.Queue.{Queue, bit, inside, exists, upTo, member, 
 use Rattle.model.specs.Queue.Queue.{ready, lock, condition}
 use Rattle.model.specs.Ledger.{byPriority}
 use Rattle.model.specs.Field.{Fields}
-use Rattle.model.specs.Field.Field.{armed}
 use Rattle.model.specs.Rules.{released, abortably, called, due}
 use Rattle.model.specs.Machine.{State, model, moves, arrivals, waiting}
 use Rattle.model.specs.Valid.{Valid}

@@ -20,7 +20,7 @@ use Rattle.model.specs.Field.Field.{running, armed, timer, failed, abort
 use Rattle.model.specs.Rules.{Effect, when, choose, nakedly, decide, released, calledOff, abortably, called, enters, alarm, rings, due}
 use Rattle.model.specs.Rules.Effect.{refuse, accept}
 use Rattle.model.specs.Machine.{Machine, State, moves, refusal, dispatch, retry, arrivals, ahead, finish, obey, step}
-use Rattle.model.proofs.Tests.{holds, fails, so, not-so, EqCase, eqb-case, eqb-yes, eqb-no, put-here, put-away, and-split, not-true}
+use Rattle.model.proofs.Tests.{so, not-so, eqb-case, eqb-yes, eqb-no, put-here, put-away, and-split, not-true}
 use Rattle.model.proofs.Lists.{filter-member, member-filter, member-upTo, insert-skip, insert-front}
 use Rattle.model.proofs.Fields.{calm-away, dispatch-priorities, dispatch-running}
 use Rattle.model.proofs.Accepted.{Accepted, accepted, when-by, choose-by, nakedly-by, enters-by, of-refuse}

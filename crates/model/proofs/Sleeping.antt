@@ -2,7 +2,7 @@
 -- stands, or wakes it. A Wait of t ticks leaves t. Each call is walked once. Assumes nothing.
 use Prim.Native.Nat.{ℕ, _+_, _%_, _≤_, _<_}
 use native.Mathlib.Omega.{arith}
-use mathlib.Core.Path.{_≡_, refl, sym, ap, _∙_, subst}
+use mathlib.Core.Path.{_≡_, refl, sym, ap, _∙_}
 use mathlib.Core.Logic.{_≢_}
 use mathlib.Core.Bool.{Bool, true, false, _&&_, _||_, cond, and-false, true≢false, false≢true}
 use mathlib.Core.List.{List, [], _∷_, _++_}
@@ -11,7 +11,7 @@ use Rattle.model.specs.declared.Shape.{Shape}
 use Rattle.model.specs.declared.Ticks.{Ticks}
 use Rattle.model.specs.declared.Call.{Call}
 use Rattle.model.specs.declared.Call.the-variants.{Enter, Exit, Wait, Notify, Broadcast, Naked, Requeue, SetPriority, Tick, Abort, SetAbortable, Reenter}
-use Rattle.model.specs.Queue.{Queue, Note, inside, outside, bit, same, member, firstOnly, toReady, isCondition}
+use Rattle.model.specs.Queue.{Queue, Note, inside, bit, same, member, firstOnly, toReady, isCondition}
 use Rattle.model.specs.Queue.Queue.{ready, park, lock, condition}
 use Rattle.model.specs.Field.{Fields, put, some, priorities}
 use Rattle.model.specs.Field.Field.{clock, running, armed, timer, abort, holder}
@@ -20,7 +20,7 @@ use Rattle.model.specs.Rules.Effect.{refuse, accept}
 use Rattle.model.specs.Machine.{State, model, moves, dispatch, obey, step, waiting}
 use Rattle.model.specs.Valid.{Valid}
 use Rattle.model.specs.Timers.{isTick, distance, ticksTo, left}
-use Rattle.model.proofs.Tests.{holds, fails, EqCase, eqb-case, eqb-yes, eqb-no, put-here, put-away, or-split, not-false, denied, outside-inside}
+use Rattle.model.proofs.Tests.{eqb-yes, eqb-no, put-here, put-away, or-split, not-false, denied}
 use Rattle.model.proofs.Lists.{firstOnly-member}
 use Rattle.model.proofs.Fields.{calm-away, armed-cleared, timer-cleared, calm-other, dispatch-away}
 use Rattle.model.proofs.Accepted.{Accepted, accepted, when-by, choose-by, nakedly-by, enters-by}

@@ -22,7 +22,7 @@ use Rattle.model.specs.Machine.{State, model, moves, obey, step, waiting
 use Rattle.model.specs.History.{isJoin, isLeaving, passes}
 use Rattle.model.specs.Valid.{Valid}
 use Rattle.model.proofs.Tests.{holds, fails, stops, EqCase, eqb-case, eqb-yes, eqb-no, LeCase, leb-case, same-case, same-yes, or-split, not-false, denied, granted, bit-small}
-use Rattle.model.proofs.Lists.{count-insert, remove-absent, member-count, absent-count, counted-member, member-here, firstOnly-member, all-map, all-append}
+use Rattle.model.proofs.Lists.{remove-absent, absent-count, member-here, firstOnly-member, insert-keeps, insert-there, all-map, all-append, members-all}
 use Rattle.model.proofs.Accepted.{Accepted, accepted, when-by, choose-by, nakedly-by, enters-by, of-refuse}
 use Rattle.model.proofs.Places.{sent, relocate, Stands, stands-moves, stands-at, at-place, waiting-is, not-abortably}
 use Rattle.model.proofs.Locks.{accepting}
@@ -30,15 +30,6 @@ use Rattle.model.proofs.Kept.{Fine, runner, decide-good}
 use Rattle.model.proofs.Rules.{due-rung}
 
 -- ---- who is ahead, in a list
-
--- what holds of all holds of a member
-all-member : (P : ℕ → Type 0) (p : ℕ) (xs : List ℕ) → All P xs → member p xs ≡ true → P p
-all-member P p [] a m = absurd (false≢true m)
-all-member P p (x ∷ xs) a m = go (eqb-case x p) (all-member P p xs (a .1))
-  where
-    go : EqCase x p → (member p xs ≡ true → P p) → P p
-    go (holds d e) ih = subst P d (a .0)
-    go (fails d e) ih = ih (rw e at m)
 
 -- a newcomer of higher priority comes ahead of p
 ahead-more : (pr : ℕ → ℕ) (p x : ℕ) (xs : List ℕ) → eqb x p ≡ false → pr p < pr x → member p xs ≡ true → length (aheadOf p (insert pr x xs)) ≡ suc (length (aheadOf p xs))
@@ -60,14 +51,7 @@ ahead-same pr p x (y ∷ ys) f h m = go (leb-case (pr x) (pr y)) (eqb-case y p) 
     go (holds d z) (holds o w) ih = rw (z, w)
     go (holds d z) (fails o w) ih = rw (z, w) (ap (λ (l : List ℕ). y ∷ l) (ih (rw w at m)))
     go (fails d z) (holds o w) ih = let k : pr y ≡ pr p = ap pr o in let g : ⊥ = omega arith in absurd g
-    go (fails d z) (fails o w) ih = let b : pr p ≤ pr y = all-member (λ u. pr u ≤ pr y) p ys (f .0) (rw w at m) in let g : ⊥ = omega arith in absurd g
-
--- who was there is there when another has come; and so is the other
-insert-keeps : (pr : ℕ → ℕ) (p x : ℕ) (xs : List ℕ) → member p xs ≡ true → member p (insert pr x xs) ≡ true
-insert-keeps pr p x xs m = let k = member-count p xs m in let c = count-insert pr p x xs in counted-member p (insert pr x xs) (omega arith)
-
-insert-there : (pr : ℕ → ℕ) (x : ℕ) (xs : List ℕ) → member x (insert pr x xs) ≡ true
-insert-there pr x xs = let c : count x (insert pr x xs) ≡ bit true + count x xs = count-insert pr x x xs ∙ rw (eqb-yes x x refl) in counted-member x (insert pr x xs) (omega arith)
+    go (fails d z) (fails o w) ih = let b : pr p ≤ pr y = members-all (λ u. pr u ≤ pr y) ys (f .0) p (rw w at m) in let g : ⊥ = omega arith in absurd g
 
 -- ---- moves that neither take one of these out of lock l nor bring anybody there
 

@@ -7,11 +7,11 @@ use Prim.Native.Nat.{ℕ, _/_, _%_, _≤_, _<_}
 use native.Mathlib.Decide.{ℕ-discrete}
 use native.Mathlib.Omega.{arith}
 use Rattle.model.specs.Queue.{member, aheadOf}
-use Rattle.model.proofs.Lists.{member-here, member-there}
+use Rattle.model.proofs.Lists.{member-here, member-there, all-members, members-all}
 use Rattle.links.specs.Link.{Stands, slot, link, next, priority, point}
 use Rattle.ring.specs.Ring.{Ring, lastOf, aheadFor, leader, Kept, Left, Joined}
 use Rattle.links.proofs.Links.{relink-priority, relink-low, next-small, point-length, point-word, point-kept, slots-apart}
-use Rattle.ring.proofs.Lists.{flip, differ, all-members, members-all, member-other}
+use Rattle.ring.proofs.Lists.{flip, differ, member-other}
 use Rattle.ring.proofs.Rings.{ring-stand, ring-member, follows-all, ring-same}
 use Rattle.ring.proofs.Moves.{leader-some}
 

@@ -1,13 +1,13 @@
 -- Lists of processes: distinct ones, the last and all but the last, what holds of each. Model has the laws of member and count. All by induction on the list. Assumes nothing.
 use mathlib.Core.Path.{_≡_, refl, sym, ap, _∙_, subst}
 use mathlib.Core.Logic.{_≢_}
-use mathlib.Core.Bool.{Bool, true, false, true≢false, false≢true}
+use mathlib.Core.Bool.{Bool, true, false, true≢false}
 use mathlib.Core.List.{List, [], _∷_, _++_}
 use Prim.Native.Nat.{ℕ, _≤_}
 use native.Mathlib.Omega.{arith}
 use Rattle.model.specs.Queue.{bit, member, count, All}
 use Rattle.model.proofs.Tests.{holds, fails, EqCase, eqb-case, eqb-yes, eqb-no}
-use Rattle.model.proofs.Lists.{all-append, all-left, all-right, absent-count, member-bit, member-here, member-there}
+use Rattle.model.proofs.Lists.{all-append, all-left, all-right, absent-count, member-bit, member-here, member-there, all-members}
 use Rattle.ring.specs.Ring.{lastOf}
 
 -- ---- every process of a list
@@ -57,19 +57,6 @@ all-zip P Q R f (x ∷ xs) h k = (f x (h .0) (k .0), all-zip P Q R f xs (h .1) (
 -- a member of x ∷ xs other than x is one of xs
 pub member-other : (y x : ℕ) (xs : List ℕ) → x ≢ y → member y (x ∷ xs) ≡ member y xs
 member-other y x xs h = rw (eqb-no x y h)
-
-module _ (P : ℕ → Type 0) where
-  pub all-members : (xs : List ℕ) → ((x : ℕ) → member x xs ≡ true → P x) → All P xs
-  all-members [] h = tt
-  all-members (x ∷ xs) h = (h x (member-here x xs), all-members xs (λ y m. h y (member-there y x xs m)))
-
-  pub members-all : (xs : List ℕ) → All P xs → (x : ℕ) → member x xs ≡ true → P x
-  members-all [] h x m = absurd (false≢true m)
-  members-all (y ∷ ys) h x m = go (eqb-case y x) (λ k. members-all ys (h .1) x k)
-    where
-      go : EqCase y x → (member x ys ≡ true → P x) → P x
-      go (holds d e) ih = subst P d (h .0)
-      go (fails d e) ih = ih (rw e at m)
 
 pub fresh-member : (q : ℕ) (xs : List ℕ) → Fresh q xs → member q xs ≡ false
 fresh-member q [] f = refl

@@ -10,11 +10,11 @@ use lib.Dec.{eqb}
 use lib.ListN.{length}
 use Rattle.model.specs.Queue.{bit, inside, member, count, first, All, takeWhile, aheadOf}
 use Rattle.model.proofs.Tests.{bounds-inside, denied}
-use Rattle.model.proofs.Lists.{all-left, all-right, absent-count, at-most, all-map}
+use Rattle.model.proofs.Lists.{all-left, all-right, absent-count, at-most, all-map, all-members, members-all}
 use Rattle.links.specs.Link.{Stands, next, point}
 use Rattle.ring.specs.Ring.{lastOf, Linked, Ring}
 use Rattle.links.proofs.Links.{point-length, point-next-other}
-use Rattle.ring.proofs.Lists.{Fresh, Distinct, init, all-last, all-init, all-zip, all-members, members-all, member-last, distinct-once, once-distinct, mid-fresh, rotated, lastOf-append, init-append}
+use Rattle.ring.proofs.Lists.{Fresh, Distinct, init, all-last, all-init, all-zip, member-last, distinct-once, once-distinct, mid-fresh, rotated, lastOf-append, init-append}
 use Rattle.ring.proofs.Places.{all-take, ahead-last}
 
 -- ---- links

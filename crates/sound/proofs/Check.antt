@@ -8,7 +8,7 @@ use mathlib.Core.Option.{Option, none, some, Option·none-ne-some, Option·some-
 use lib.ListN.{length, getD}
 use Rattle.model.specs.Queue.{Queue, inside, bit, exists, member, count, All}
 use Rattle.model.specs.Queue.Queue.{ready}
-use Rattle.model.proofs.Lists.{absent-count}
+use Rattle.model.proofs.Lists.{absent-count, members-all}
 use Rattle.links.specs.Link as links
 use Rattle.area.specs.Reading.{shapeOf}
 use Rattle.area.specs.Rings.{records}
@@ -17,7 +17,7 @@ use Rattle.area.proofs.Records.{part-lent}
 use Rattle.heads.specs.First.{Decides, Counted, Runs}
 use Rattle.members.specs.Walk.{Met, Told}
 use Rattle.members.proofs.Marks.{clear, table-clear}
-use Rattle.members.proofs.Chains.{Words, Member, all-member}
+use Rattle.members.proofs.Chains.{Words, Member}
 use Rattle.sound.specs.Passed.{then}
 use Rattle.sound.proofs.Queues.{kindOf, holderWord, visits, queuesOf, visits-append, from}
 use Rattle.sound.proofs.Lists.{every, every-in, in-every, in-all, all-in, full-length, length-full}
@@ -68,7 +68,7 @@ total-inside ws x (q ∷ qs) v i = let a = go (member x (reading ws q)) refl in 
     go : (b : Bool) → member x (reading ws q) ≡ b → count x (reading ws q) ≡ 0
     go false m = absent-count x (reading ws q) m
     go true m =
-        let k = all-member (Member (records (shapeOf ws) ws) (getD ws 0 0) (kindOf q) (holderWord ws q / 8)) (reading ws q) (v .0 .ring .members) x m in
+        let k = members-all (Member (records (shapeOf ws) ws) (getD ws 0 0) (kindOf q) (holderWord ws q / 8)) (reading ws q) (v .0 .ring .members) x m in
         absurd (true≢false (sym (k .within) ∙ i))
 
 -- past the passes: the tail of ready and who comes after it are processes, and what is left to ask is whether running is in order

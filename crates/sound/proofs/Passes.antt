@@ -15,7 +15,7 @@ use Rattle.model.specs.Field.{priorities}
 use Rattle.model.specs.Field.Field.{priority, holder, wakeup}
 use Rattle.model.specs.Machine as machine
 use Rattle.model.proofs.Tests.{eqb-yes, eqb-no, inside-bounds}
-use Rattle.model.proofs.Lists.{member-here}
+use Rattle.model.proofs.Lists.{member-here, all-members}
 use Rattle.model.proofs.Places.{stands-at, waiting-is}
 use Rattle.links.specs.Link as links
 use Rattle.ring.specs.Ring.{lastOf, Linked}
@@ -32,7 +32,7 @@ use Rattle.area.proofs.States.{chain-read}
 use Rattle.heads.specs.First.{Counted, Runs}
 use Rattle.heads.proofs.Tests.{Headed}
 use Rattle.members.proofs.Tests.{Asleep, Fits}
-use Rattle.members.proofs.Chains.{Words, Member, member-all}
+use Rattle.members.proofs.Chains.{Words, Member}
 use Rattle.sound.proofs.Queues.{kindOf, tailWord, holderWord}
 use Rattle.sound.proofs.Lists.{hits, every, every-once}
 use Rattle.sound.proofs.Visits.{reading, total, Visited, link-word, flags-word, timer-word, next-part, priority-part, total-hits}
@@ -204,7 +204,7 @@ module _ (ws : List ℕ) (small : Words ws) (S : Sound ws) where
     ring = record {
       linked = linked q h;
       ends = ends q h;
-      members = member-all (Member rs P (kindOf q) (holderWord ws q / 8)) (reading ws q) (λ x m. record { within = is-inside x q m; free = free x q h m; fits = rw (link-word ws x, flags-word ws x, timer-word ws x) (fits x q m) });
+      members = all-members (Member rs P (kindOf q) (holderWord ws q / 8)) (reading ws q) (λ x m. record { within = is-inside x q m; free = free x q h m; fits = rw (link-word ws x, flags-word ws x, timer-word ws x) (fits x q m) });
       falls = falling-ext (priorities (stateOf ws .fields)) (links.priority rs) (reading ws q) level (S .valid .placed .falls q);
     };
   }

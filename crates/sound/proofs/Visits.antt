@@ -12,7 +12,7 @@ use Rattle.model.specs.Queue.{Queue, inside, bit, same, exists, member, count, 
 use Rattle.model.specs.Queue.Queue.{ready}
 use Rattle.model.specs.Field.Field.{priority}
 use Rattle.model.proofs.Tests.{inside-bounds}
-use Rattle.model.proofs.Lists.{member-count, absent-count, at-most}
+use Rattle.model.proofs.Lists.{member-count, absent-count, at-most, members-all}
 use Rattle.links.specs.Link as links
 use Rattle.links.specs.Link.{slot}
 use Rattle.ring.specs.Ring.{lastOf, Linked}
@@ -25,7 +25,7 @@ use Rattle.area.proofs.Rings.{Once, ring-ext, last-member, In}
 use Rattle.area.proofs.States.{read-ring}
 use Rattle.heads.specs.Heads.{heading}
 use Rattle.heads.proofs.Tests.{Headed, heading-is, is-heading}
-use Rattle.members.proofs.Chains.{Words, Member, Ringed, ring-read, ring-full, all-member, onto, count-onto}
+use Rattle.members.proofs.Chains.{Words, Member, Ringed, ring-read, ring-full, onto, count-onto}
 use Rattle.sound.specs.Passed.{then}
 use Rattle.sound.proofs.Queues.{kindOf, tailWord, holderWord, visit, visits}
 use Rattle.sound.proofs.Lists.{hits}
@@ -90,7 +90,7 @@ read-queue ws q k o ys h s l once R =
     (at-most (getD ws 0 0) ys (once-inside (getD ws 0 0) ys once ins)))
   where
     ins : (p : ℕ) → member p ys ≡ true → inside (getD ws 0 0) p ≡ true
-    ins p m = all-member (Member (records (shapeOf ws) ws) (getD ws 0 0) k o) ys (R .members) p m .within
+    ins p m = members-all (Member (records (shapeOf ws) ws) (getD ws 0 0) k o) ys (R .members) p m .within
 
 -- ---- one queue
 
@@ -129,7 +129,7 @@ led ws v z = go (reading ws ready) (v .ring .linked) (v .ring .ends) (v .ring .m
     go : (ys : List ℕ) → Linked (links.next (records (shapeOf ws) ws)) (getD ws 5 0 / 8) ys → lastOf 0 ys ≡ getD ws 5 0 / 8 → All T ys
         → (inside (getD ws 0 0) (getD ws 5 0 / 8) ≡ true) × (inside (getD ws 0 0) (links.next (records (shapeOf ws) ws) (getD ws 5 0 / 8)) ≡ true)
     go [] l e m = absurd (z (sym e))
-    go (y ∷ ys) l e m = (rw (← e) (all-member T (y ∷ ys) m (lastOf y ys) (last-member y ys) .within), rw (l .0) (m .0 .within))
+    go (y ∷ ys) l e m = (rw (← e) (members-all T (y ∷ ys) m (lastOf y ys) (last-member y ys) .within), rw (l .0) (m .0 .within))
 
 -- ---- several queues
 

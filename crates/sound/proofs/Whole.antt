@@ -17,7 +17,7 @@ use Rattle.model.specs.Machine as machine
 use Rattle.model.specs.Rules.{counted}
 use Rattle.model.specs.Valid.{room}
 use Rattle.model.proofs.Tests.{Case, holds, fails, stops, same-case, eqb-yes, eqb-no, leb-no, inside-bounds}
-use Rattle.model.proofs.Lists.{member-here, member-there}
+use Rattle.model.proofs.Lists.{member-here, member-there, all-members, members-all}
 use Rattle.model.proofs.Places.{at-place, waiting-is}
 use Rattle.links.specs.Link as links
 use Rattle.links.specs.Link.{slot}
@@ -33,7 +33,7 @@ use Rattle.area.proofs.Rings.{last-member}
 use Rattle.heads.specs.First.{Counted, Runs}
 use Rattle.heads.proofs.Tests.{Headed}
 use Rattle.members.proofs.Tests.{Asleep, Fits}
-use Rattle.members.proofs.Chains.{Words, Member, all-member, member-all}
+use Rattle.members.proofs.Chains.{Words, Member}
 use Rattle.sound.proofs.Queues.{kindOf, tailWord, holderWord}
 use Rattle.sound.proofs.Lists.{every, every-in, in-every}
 use Rattle.sound.proofs.Visits.{reading, total, Visited, link-word, flags-word, timer-word, tail-part, next-part, priority-part, led, total-one, total-two, placeIn, place-in}
@@ -50,7 +50,7 @@ pub record Whole (ws : List ℕ) : Type 0 where
 pub falling-ext : (f g : ℕ → ℕ) (xs : List ℕ) → ((p : ℕ) → member p xs ≡ true → f p ≡ g p) → Falling f xs → Falling g xs
 falling-ext f g [] h c = tt
 falling-ext f g (x ∷ xs) h c = (
-  member-all (λ y. g y ≤ g x) xs (λ y m. rw (← h y (member-there y x xs m), ← h x (member-here x xs)) (all-member (λ y. f y ≤ f x) xs (c .0) y m)),
+  all-members (λ y. g y ≤ g x) xs (λ y m. rw (← h y (member-there y x xs m), ← h x (member-here x xs)) (members-all (λ y. f y ≤ f x) xs (c .0) y m)),
   falling-ext f g xs (λ p m. h p (member-there p x xs m)) (c .1),
 )
 
@@ -165,7 +165,7 @@ module _ (ws : List ℕ) (small : Words ws) (W : Whole ws) where
   there x q m = go (exists n q) refl
     where
       go : (b : Bool) → exists n q ≡ b → (exists n q ≡ true) × Member rs P (kindOf q) (holderWord ws q / 8) x
-      go true h = (h, all-member (Member rs P (kindOf q) (holderWord ws q / 8)) (reading ws q) (W .each q h .ring .members) x m)
+      go true h = (h, members-all (Member rs P (kindOf q) (holderWord ws q / 8)) (reading ws q) (W .each q h .ring .members) x m)
       go false h = absurd (false≢true (rw (none-there q h) at m))
 
   -- its record
@@ -324,7 +324,7 @@ module _ (ws : List ℕ) (small : Words ws) (W : Whole ws) where
       go : (ys : List ℕ) → Linked (links.next rs) (getD ws 5 0 / 8) ys → lastOf 0 ys ≡ getD ws 5 0 / 8 → All (Member rs P 0 0) ys → getD ws 4 0 / 8 % 1024 ≡ first ys
       go [] l e m = let a = W .runs .nobody (sym e) in omega arith
       go (y ∷ ys) l e m =
-          let b = inside-bounds P (lastOf y ys) (all-member (Member rs P 0 0) (y ∷ ys) m (lastOf y ys) (last-member y ys) .within) in
+          let b = inside-bounds P (lastOf y ys) (members-all (Member rs P 0 0) (y ∷ ys) m (lastOf y ys) (last-member y ys) .within) in
           let z : getD ws 5 0 / 8 ≡ 0 → ⊥ = λ z. omega arith in
           let f = W .runs .somebody z .first in let w = first-within z in let o = l .0 in let u = most in
           omega arith

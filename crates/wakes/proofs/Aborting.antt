@@ -2,7 +2,7 @@
 -- none was one. Assumes nothing.
 use Prim.Native.Nat.{ℕ, suc, zero, _+_, _-_, _≤_, _<_}
 use native.Mathlib.Omega.{arith}
-use mathlib.Core.Path.{_≡_, refl, sym, ap, _∙_, subst}
+use mathlib.Core.Path.{_≡_, refl, sym, ap, _∙_}
 use mathlib.Core.Logic.{_≢_}
 use mathlib.Core.Bool.{Bool, true, false, _&&_, _||_, cond, or-true}
 use mathlib.Core.List.{List, [], _∷_}
@@ -16,11 +16,11 @@ use Rattle.model.specs.Queue.{inside, outside, anyOf, bit, member}
 use Rattle.model.specs.Queue.Queue.{condition}
 use Rattle.model.specs.Field.{put, some}
 use Rattle.model.specs.Field.Field.{abort, abortable}
-use Rattle.model.specs.Rules.{Effect, when, decide, calm, abortably, called}
+use Rattle.model.specs.Rules.{when, decide, calm, abortably, called}
 use Rattle.model.specs.Rules.Effect.{refuse, accept}
 use Rattle.model.specs.Machine.{State, model, finish, refusal}
 use Rattle.model.proofs.Tests.{eqb-yes, eqb-no, not-true}
-use Rattle.model.proofs.Places.{any-some, not-abortably}
+use Rattle.model.proofs.Places.{any-some}
 use Rattle.model.proofs.Loops.{called-moved}
 use Rattle.area.specs.Holds.{Holds, Becomes, with, Gives, Tried}
 use Rattle.area.specs.Calls.{Does, Missing, woken}
