@@ -18,8 +18,8 @@ SCRIPT ?= examples/script.txt
 PREFIX ?= /usr/local
 VERSION = 0.1.0
 
-# A build proves level by level: four crates at a time keep two cores busy to the end of a level. The gate's edits do not wait for each other
-# and take as many at a time as there are cores: more only share the caches.
+# A build proves level by level: four crates at a time keep two cores busy to the end of a level. The gate tries its edits in batches of as many
+# as there are cores: in larger ones they only share the caches.
 lib rehearse: export RT_JOBS ?= 4
 
 .PHONY: lib rehearse run test bench bench-rehearse plot fuzz cortex-m install

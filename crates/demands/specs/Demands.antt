@@ -72,7 +72,8 @@ pub record OnTime : Type 0 where
       → SleepsFor Crosses new (stateOf old .fields running) c (t .0)
 
 -- Nobody is passed over at a lock: whoever joins it with k ahead is brought into ready by its (k + 1)th leaving from then on and by no earlier
--- call, as long as nobody of higher priority joins; each that does makes it one leaving later. In every run of the calls made from C
+-- call, as long as nobody of higher priority joins; each that does makes it one leaving later. In every run of the calls made from C, from
+-- whatever area, and so in every history from Start
 abbrev pub Turns : Type 0
 Turns = turns.Turns answerOf Crosses
 

@@ -1,4 +1,5 @@
--- What demand 3 says of states: a history is an accepted Start and then any list of the twelve calls, refused ones among them. Assumes nothing.
+-- What demand 3 says of states: a history is an accepted Start and then any list of the twelve calls, refused ones among them. Before it stands what
+-- counts as an entry, a join and a leaving of a lock, and who passes whom over there. Assumes nothing.
 use Prim.Native.Nat.{ℕ, _+_}
 use mathlib.Core.Path.{_≡_}
 use mathlib.Core.Logic.{_≢_, _↔_}
