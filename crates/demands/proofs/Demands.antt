@@ -15,8 +15,8 @@ use Rattle.start.specs.Start.{Starts}
 use Rattle.monitor.specs.Calls.{Performs}
 use Rattle.reads.specs.Reads.{ListsOn, TellsOn, SheetsOn, NearestOn}
 use Rattle.wire.specs.Wire.{packed, answerOf, reportOf, nearestOf}
-use Rattle.runs.specs.History.{Run}
-use Rattle.runs.specs.History.Run.{none, then}
+use Rattle.model.specs.Run.{Run}
+use Rattle.model.specs.Run.Run.{none, then}
 use Rattle.runs.proofs.History.{run-ends}
 use Rattle.runs.proofs.Turns.{all-turns}
 use Rattle.wire.proofs.Wire.{read-answer, read-report, read-nearest}

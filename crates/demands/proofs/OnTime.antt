@@ -5,8 +5,8 @@ use mathlib.Core.List.{List, map}
 use Rattle.model.specs.declared.Call.{Call}
 use Rattle.monitor.specs.Calls.{Performs}
 use Rattle.wire.specs.Wire.{answerOf}
-use Rattle.runs.specs.History.{Run}
-use Rattle.runs.specs.History.Run.{none, then}
+use Rattle.model.specs.Run.{Run}
+use Rattle.model.specs.Run.Run.{none, then}
 use Rattle.runs.specs.Ticks.{WakesIn, Still, Undisturbed, SleepsFor}
 use Rattle.runs.proofs.Ticks.{told-wakes, nearest-wakes, still-before, still-ever, wait-lasts}
 use Rattle.kernel.specs.Exports.{Crosses}

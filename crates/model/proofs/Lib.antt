@@ -17,3 +17,4 @@ pub mod Sleeping
 pub mod Reports
 pub mod Aborts
 pub mod Turns
+pub mod Runs

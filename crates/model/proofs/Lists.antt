@@ -1,14 +1,26 @@
 -- Lists of processes: what remove and insert leave of counts, membership and the falling order. By induction on the list. Assumes nothing.
 use Prim.Native.Nat.{ℕ, zero, suc, _+_, _≤_, _<_}
+use native.Mathlib.Decide.{ℕ-discrete}
 use native.Mathlib.Omega.{arith}
 use mathlib.Core.Path.{_≡_, refl, ap, sym, _∙_, subst}
-use mathlib.Core.Logic.{_≢_}
+use mathlib.Core.Logic.{_≢_, Dec·and}
 use mathlib.Core.Bool.{Bool, true, false, _||_, cond, or-false, or-true, or-assoc, false≢true}
 use mathlib.Core.List.{List, [], _∷_, _++_}
 use lib.Dec.{eqb, leb}
-use lib.ListN.{length}
+use lib.ListN.{length, getD, drop}
 use Rattle.model.specs.Queue.{bit, inside, upTo, member, count, first, firstOnly, filter, remove, insert, All, Falling}
 use Rattle.model.proofs.Tests.{holds, fails, EqCase, eqb-case, eqb-yes, eqb-no, LeCase, leb-case, leb-yes, leb-no, or-split, bit-split, bit-small, inside-bounds, bounds-inside}
+
+-- ---- whether two are the same
+
+pub lists? : (xs ys : List ℕ) → Dec (xs ≡ ys)
+lists? [] [] = yes refl
+lists? [] (y ∷ ys) = no (λ e. let l : _≡_ {A = ℕ} 0 (length (y ∷ ys)) = ap length e in omega arith)
+lists? (x ∷ xs) [] = no (λ e. let l : length (x ∷ xs) ≡ 0 = ap length e in omega arith)
+lists? (x ∷ xs) (y ∷ ys) = elim (Dec·and (ℕ-discrete x y) (lists? xs ys)) [
+  | yes e ↦ yes (λ i. e .0 i ∷ e .1 i)
+  | no n ↦ no (λ e. n (ap (λ (l : List ℕ). getD l 0 0) e, ap (λ (l : List ℕ). drop 1 l) e))
+]
 
 -- ---- counts
 

@@ -116,6 +116,14 @@ put-here f v s = rw (passes (put-case f f) (λ h. h refl))
 pub put-away : (f : Field) (v : ℕ) (s : Fields) (g : Field) → f ≢ g → put f v s g ≡ s g
 put-away f v s g h = rw (stops (put-case f g) h)
 
+-- ---- by cases on what cannot be decided, where what is to be shown can be
+
+pub settle : {S X : Type 0} → Dec X → (S → X) → ((S → ⊥) → X) → X
+settle d f g = elim d [
+  | yes x ↦ x
+  | no n ↦ g (λ s. n (f s))
+]
+
 -- ---- splits
 
 pub or-split : (a b : Bool) → a || b ≡ false → (a ≡ false) × (b ≡ false)

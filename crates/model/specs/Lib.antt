@@ -7,6 +7,7 @@ pub mod Valid
 pub mod Timers
 pub mod Reports
 pub mod History
+pub mod Run
 pub mod Table
 pub mod Examples
 pub mod Text

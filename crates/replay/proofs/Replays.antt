@@ -15,8 +15,9 @@ use Rattle.model.specs.declared.Call.the-variants.{Enter, Exit, Wait, Notify, B
 use Rattle.model.specs.declared.Answer.{Answer}
 use Rattle.model.specs.Machine.{fieldsOf}
 use Rattle.monitor.specs.Calls.{Performs}
-use Rattle.runs.specs.History.{Run, Ends}
-use Rattle.runs.specs.History.Run.{none, then}
+use Rattle.model.specs.Run.{Run}
+use Rattle.model.specs.Run.Run.{none, then}
+use Rattle.runs.specs.History.{Ends}
 use Rattle.wire.specs.Wire.{numberOf, answerOf}
 use Rattle.wire.proofs.Wire.{carries, read-answer}
 use Rattle.runs.proofs.History.{run-ends}

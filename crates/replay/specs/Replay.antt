@@ -11,7 +11,8 @@ use Rattle.model.specs.declared.Call.the-variants.{Enter, Exit, Wait, Notify, B
 use Rattle.model.specs.declared.Answer.{Answer}
 use Rattle.start.specs.Start.{Starts}
 use Rattle.monitor.specs.Calls.{Performs}
-use Rattle.runs.specs.History.{Run, Ends}
+use Rattle.model.specs.Run.{Run}
+use Rattle.runs.specs.History.{Ends}
 use Rattle.runs.specs.Turns.{InTurn}
 use Rattle.wire.specs.Wire.{numberOf, answerOf}
 use Rattle.replay.specs.declared.Record.{Record}

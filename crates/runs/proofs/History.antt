@@ -33,8 +33,9 @@ use Rattle.area.proofs.Whole.{write-image, image-shape}
 use Rattle.area.proofs.States.{laid-spans, state-read, state-says, image-sound, sound-image}
 use Rattle.start.specs.Start.{startOn, Starts}
 use Rattle.monitor.specs.Calls.{Performs}
-use Rattle.runs.specs.History.{Run, Ends, Demand3}
-use Rattle.runs.specs.History.Run.{none, then}
+use Rattle.model.specs.Run.{Run}
+use Rattle.model.specs.Run.Run.{none, then}
+use Rattle.runs.specs.History.{Ends, Demand3}
 
 -- ws are the words of the valid state s
 pub record Keeps (n : Shape) (ws : List ℕ) (s : State model) : Type 0 where

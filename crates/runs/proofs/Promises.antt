@@ -8,14 +8,15 @@ use mathlib.Core.Logic.{Dec·and}
 use mathlib.Core.Bool.{Bool, true, false, not, cond, false≢true}
 use mathlib.Core.List.{List, [], _∷_, map}
 use lib.Dec.{eqb, ltb}
-use lib.ListN.{length, getD, take, drop}
+use lib.ListN.{length, take, drop}
 use borrow.Author.Tests.{le-ltb, ne-eqb}
 use Rattle.model.specs.declared.Shape.{Shape}
 use Rattle.model.specs.declared.Call.{Call}
 use Rattle.model.specs.declared.Answer.{Answer}
 use Rattle.model.specs.Rules.{counted, anyAbove, startCode}
 use Rattle.model.specs.Machine.{State, model, fieldsOf, step, start, refusal}
-use Rattle.model.proofs.Tests.{EqCase, holds, fails, eqb-case}
+use Rattle.model.proofs.Tests.{EqCase, holds, fails, eqb-case, settle}
+use Rattle.model.proofs.Lists.{lists?}
 use Rattle.model.proofs.Rules.{refused-stays}
 use Rattle.model.proofs.Kept.{Small, step-small, start-small, start-valid}
 use Rattle.area.specs.Layout.{word, slots, size}
@@ -30,13 +31,7 @@ use Rattle.monitor.specs.Calls.{Performs, Spares}
 use Rattle.wire.proofs.Wire.{Fit, answerFrom}
 use Rattle.runs.proofs.History.{start-accepted}
 
--- ---- by cases on soundness, where what is to be shown can be decided
-
-pub settle : {S X : Type 0} → Dec X → (S → X) → ((S → ⊥) → X) → X
-settle d f g = elim d [
-  | yes x ↦ x
-  | no n ↦ g (λ s. n (f s))
-]
+-- ---- what can be decided
 
 -- an area that cannot be unsound will do for a sound one
 pub sure : {ws : List ℕ} {X : Type 0} → ((Sound ws → ⊥) → ⊥) → Dec X → (Sound ws → X) → X
@@ -46,15 +41,6 @@ sure N d f = settle d f (λ u. absurd (N u))
 pub passed? : (b : Bool) → Dec (b ≡ true)
 passed? true = yes refl
 passed? false = no false≢true
-
-pub lists? : (xs ys : List ℕ) → Dec (xs ≡ ys)
-lists? [] [] = yes refl
-lists? [] (y ∷ ys) = no (λ e. let l : _≡_ {A = ℕ} 0 (length (y ∷ ys)) = ap length e in omega arith)
-lists? (x ∷ xs) [] = no (λ e. let l : length (x ∷ xs) ≡ 0 = ap length e in omega arith)
-lists? (x ∷ xs) (y ∷ ys) = elim (Dec·and (ℕ-discrete x y) (lists? xs ys)) [
-  | yes e ↦ yes (λ i. e .0 i ∷ e .1 i)
-  | no n ↦ no (λ e. n (ap (λ (l : List ℕ). getD l 0 0) e, ap (λ (l : List ℕ). drop 1 l) e))
-]
 
 answers? : (a b : Answer) → Dec (a ≡ b)
 answers? a b = elim (lists? (fieldsOf a) (fieldsOf b)) [

@@ -17,7 +17,8 @@ use Rattle.model.specs.Queue.{queueBy, isQueue, All}
 use Rattle.model.specs.Machine.{State, model}
 use Rattle.model.specs.Timers.{Entry, dueWithin, firstEntry, nearest}
 use Rattle.model.specs.Reports.{Refused, Reports}
-use Rattle.model.proofs.Tests.{inside-bounds}
+use Rattle.model.proofs.Tests.{inside-bounds, settle}
+use Rattle.model.proofs.Lists.{lists?}
 use Rattle.model.proofs.Places.{queue-length}
 use Rattle.model.proofs.Ticking.{left-most, Exact, due-exact}
 use Rattle.area.specs.Reading.{shapeOf, stateOf, Agree}
@@ -33,7 +34,7 @@ use Rattle.timers.proofs.Dues.{count-all, due-few}
 use Rattle.reads.specs.Reads.{ReadsOn, ListsOn, TellsOn, SheetsOn, NearestOn}
 use Rattle.wire.specs.Wire.{reportFields, nearestFields}
 use Rattle.wire.proofs.Wire.{Fit, reportFrom, earliestFrom}
-use Rattle.runs.proofs.Promises.{settle, lists?, unsound-same, fit?}
+use Rattle.runs.proofs.Promises.{unsound-same, fit?}
 
 -- ---- how much is told
 

@@ -20,6 +20,7 @@ use Rattle.model.specs.Field.Field.{running}
 use Rattle.model.specs.Machine.{State, model, step, after, waiting}
 use Rattle.model.specs.Timers.{ticks, isTick, ticksIn, left, Entry, dueWithin}
 use Rattle.model.specs.Reports.{Reports}
+use Rattle.model.proofs.Lists.{lists?}
 use Rattle.model.proofs.Ticking.{seat, left-waits, tick-wakes, ticks-stay, ticks-wake, ticks-still, Exact, due-exact, nearest-is}
 use Rattle.model.proofs.Sleeping.{Lets, awaits, call-lets, wait-left}
 use Rattle.area.specs.Reading.{shapeOf, stateOf}
@@ -28,11 +29,11 @@ use Rattle.timers.specs.declared.Earliest.{Earliest}
 use Rattle.timers.specs.Telling.{inWords}
 use Rattle.monitor.specs.Calls.{Performs}
 use Rattle.reads.specs.Reads.{TellsOn, NearestOn}
-use Rattle.runs.specs.History.{Run}
-use Rattle.runs.specs.History.Run.{none, then}
+use Rattle.model.specs.Run.{Run}
+use Rattle.model.specs.Run.Run.{none, then}
 use Rattle.runs.specs.Ticks.{WakesIn, Still, Undisturbed, SleepsFor}
 use Rattle.runs.proofs.History.{Keeps, own, keeps-shape, keeps-state, step-answer, step-keeps, run-keeps}
-use Rattle.runs.proofs.Promises.{sure, passed?, lists?}
+use Rattle.runs.proofs.Promises.{sure, passed?}
 
 -- ---- from a sound area
 

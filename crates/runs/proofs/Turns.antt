@@ -17,8 +17,8 @@ use Rattle.model.proofs.Turns.{Behind, Turned, join-behind, call-turns}
 use Rattle.area.specs.Reading.{shapeOf, stateOf}
 use Rattle.area.specs.Sound.{Sound}
 use Rattle.monitor.specs.Calls.{Performs}
-use Rattle.runs.specs.History.{Run}
-use Rattle.runs.specs.History.Run.{none, then}
+use Rattle.model.specs.Run.{Run}
+use Rattle.model.specs.Run.Run.{none, then}
 use Rattle.runs.specs.Turns.{StandsIn, remaining, Unpassed, toGo, Turn, InTurn, Turns}
 use Rattle.runs.proofs.History.{Keeps, own, keeps-state, step-answer, step-keeps}
 use Rattle.runs.proofs.Promises.{passed?, sure}

@@ -14,15 +14,11 @@ use Rattle.model.specs.Field.Field.{running}
 use Rattle.model.specs.Machine as machine
 use Rattle.model.specs.Machine.{start}
 use Rattle.model.specs.Ledger.{ledger, reading, lies}
+use Rattle.model.specs.Run.{Run}
 use Rattle.model.specs.History.{isEntry, isLeaving, tally, end, replies}
 use Rattle.area.specs.Layout.Part.{locked, waiting}
 use Rattle.area.specs.Reading.{shapeOf, partsOf, stateOf}
 use Rattle.area.specs.Sound.{Sound}
-
--- calls, or what else is promised of an area, made one after the other, each as it is promised: from one area to another, with these answers
-pub data Run {C A : Type 0} (Promised : C → List ℕ → List ℕ → A → Type 0) : List C → List ℕ → List ℕ → List A → Type 0 where
-  none : {ws : List ℕ} → Run Promised [] ws ws []
-  then : {c : C} {cs : List C} {old mid new : List ℕ} {a : A} {rs : List A} → Promised c old mid a → Run Promised cs mid new rs → Run Promised (c ∷ cs) old new (a ∷ rs)
 
 -- Start's answer, the answers rs to the calls cs and the area ws after them, against the arrival ledger that was fed the same
 pub record Ends (n : Shape) (bytes : List ℕ) (started : Answer) (cs : List Call) (rs : List Answer) (ws : List ℕ) : Type 0 where

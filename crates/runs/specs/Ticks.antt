@@ -11,7 +11,7 @@ use Rattle.model.specs.Queue.Queue.{ready, condition as waitingAt}
 use Rattle.model.specs.Machine.{waiting}
 use Rattle.model.specs.Timers.{ticks, isTick, ticksIn}
 use Rattle.area.specs.Reading.{shapeOf, stateOf}
-use Rattle.runs.specs.History.{Run}
+use Rattle.model.specs.Run.{Run}
 
 -- p stands waiting in its condition after each of the first d - 1 Ticks, and the d-th brings it into ready
 pub record WakesIn {A : Type 0} (Promised : Call → List ℕ → List ℕ → A → Type 0) (ws : List ℕ) (p d : ℕ) : Type 0 where

@@ -12,8 +12,8 @@ use Rattle.model.specs.Queue.Queue.{ready, lock}
 use Rattle.model.specs.Field.Field.{running}
 use Rattle.model.specs.History.{isJoin, isLeaving, passes, tally}
 use Rattle.area.specs.Reading.{stateOf}
-use Rattle.runs.specs.History.{Run}
-use Rattle.runs.specs.History.Run.{none, then}
+use Rattle.model.specs.Run.{Run}
+use Rattle.model.specs.Run.Run.{none, then}
 
 -- p stands in queue q
 abbrev pub StandsIn : List ℕ → ℕ → Queue → Type 0

@@ -33,8 +33,8 @@ use Rattle.area.proofs.Stores.{store}
 use Rattle.area.proofs.Puts.{placed-with, becomes-with}
 use Rattle.start.specs.Start.{startOn}
 use Rattle.monitor.specs.Calls.{Performs}
-use Rattle.runs.specs.History.{Run}
-use Rattle.runs.specs.History.Run.{none, then}
+use Rattle.model.specs.Run.{Run}
+use Rattle.model.specs.Run.Run.{none, then}
 use Rattle.wire.specs.Wire.{numberOf, answerOf}
 use Rattle.runs.proofs.History.{Keeps, keeps-sound, keeps-state, step-keeps, run-answers, run-keeps, starts-code, start-keeps}
 use Rattle.runs.proofs.Promises.{long-code}
@@ -44,8 +44,8 @@ use Rattle.demands.proofs.Demands.{demand2, run-crossed}
 use Rattle.script.specs.Line.{Meaning, meaning}
 use Rattle.script.specs.Line.Meaning.{call, start as begins}
 use Rattle.print.specs.Print.{printed}
-use Rattle.serve.specs.Serve.{Serves}
-use Rattle.table.specs.Table.{Question, startLine, rows, zeros, Started, Played, Comes, AllCome, must, Table}
+use Rattle.serve.specs.Serve.{Serves, Played}
+use Rattle.table.specs.Table.{Question, startLine, rows, zeros, Started, Comes, AllCome, must, Table}
 use Rattle.table.specs.Table.Question.{typed, words, room, asked}
 
 -- ---- the clock's word may be set to any time

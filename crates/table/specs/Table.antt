@@ -18,12 +18,12 @@ use Rattle.model.specs.Table.Question.{code, lines, stores}
 use Rattle.area.specs.Layout.{size}
 use Rattle.area.specs.Reading.{stateOf}
 use Rattle.area.specs.Sound.{Sound}
-use Rattle.runs.specs.History.{Run}
+use Rattle.model.specs.Run.{Run}
 use Rattle.wire.specs.Wire.{answerOf}
 use Rattle.kernel.specs.Exports.{Begins, Crosses}
 use Rattle.script.specs.Line.{meaning}
 use Rattle.script.specs.Line.Meaning.{call}
-use Rattle.serve.specs.Serve.{Serves}
+use Rattle.serve.specs.Serve.{Played}
 
 -- ---- the rows
 
@@ -76,10 +76,6 @@ zeros k = replicate k 0
 -- the sample, started in an area of its size: its words, and Start's number
 abbrev pub Started : List ℕ → ℕ → Type 0
 Started ws r = Begins sample bytes (zeros (size sample)) ws r
-
--- lines served one after the other: from one area to another, with what is printed
-abbrev pub Played : List (List ℕ) → List ℕ → List ℕ → List (List ℕ) → Type 0
-Played = Run (λ (line old new out : List ℕ). Serves (meaning line) old new out)
 
 -- these lines come of a question; Rehearse's area has 8,192 words, and the clock is word 3
 abbrev pub Comes : Question → List (List ℕ) → Type 0
