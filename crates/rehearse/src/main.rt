@@ -1,127 +1,80 @@
 // Rehearse: calls from standard input, one a line, performed on an area of 8,192 words, each answer a line. Assumes nothing.
-ghost use Prim.Native.Nat.{_+_, _≤_};
-ghost use lib.ListN.{length};
+ghost use Prim.Native.Nat.{ℕ, _*_, _≤_, _<_};
+ghost use lib.ListN.{length, take};
 ghost use Rattle.print.specs.Print.{longest};
-ghost use Rattle.rehearse.specs.Turns.{Within};
+ghost use Rattle.lines.specs.Lines.{held, Takes, Leaves};
 
-// What one read leads to: more input, or its end, with the bytes of the open line.
-enum Turn {
-    More(usize),
-    Done(usize),
-}
-
-// One whole line, its answer behind the `full` bytes that wait; they are written where no further answer has room.
-fn line_done(
-    line: &[u8],
-    table: &mut [u16],
-    bytes: &mut [u8],
-    area: &mut [u16],
-    out: &mut [u8],
-    full: usize,
-) -> usize
-    requires { ⌜ 8192 ≤ length (now table) ⌝ }
-    requires { ⌜ 8192 ≤ length (now bytes) ⌝ }
-    requires { ⌜ full + longest ≤ length (now out) ⌝ }
-    ensures { λ r. ⌜ r + longest ≤ length (now (out .entry)) ⌝ }
-{
-    let n = serve::serve(line, table, bytes, area, &mut out[full..]);
-    let end = full + n;
-    if out.len() - end < print::LONGEST {
-        io::write_all(1, &out[..end]);
-        return 0;
-    }
-    end
-}
-
-// The bytes of one read. A line's bytes past the end of `line` are dropped; every answer is written.
-fn feed(
-    chunk: &[u8],
+// One read: what it brings is taken in, and what comes of it is written. The answer is what C's read answered.
+fn turn(
+    chunk: &mut [u8],
     line: &mut [u8],
-    fill: usize,
+    fill: &mut usize,
     table: &mut [u16],
     bytes: &mut [u8],
     area: &mut [u16],
     out: &mut [u8],
-) -> usize
-    requires { ⌜ fill ≤ length (now line) ⌝ }
+) -> isize
+    requires { ⌜ 8192 < length (now line) ⌝ }
+    requires { ⌜ now fill ≤ length (now line) ⌝ }
     requires { ⌜ 8192 ≤ length (now table) ⌝ }
     requires { ⌜ 8192 ≤ length (now bytes) ⌝ }
     requires { ⌜ longest ≤ length (now out) ⌝ }
-    ensures { λ r. ⌜ r ≤ length (now (line .entry)) ⌝ }
+    requires { ⌜ length (now chunk) * longest ≤ length (now out) ⌝ }
+    ensures { λ r. ⌜ now (fill .exit) ≤ length (now (line .entry)) ⌝ }
+    ensures { λ r. ⌜ ((n : ℕ) × Takes r (now (chunk .exit)) (held (now (line .entry)) (now (fill .entry)) (now (area .entry))) (held (now (line .exit)) (now (fill .exit)) (now (area .exit))) (take n (now (out .exit)))) ⌝ }
 {
-    let mut at = fill;
-    let mut full: usize = 0;
-    let mut i = 0;
-    while i < chunk.len() {
-        let b = chunk[i];
-        if b == b'\n' {
-            full = line_done(&line[..at], table, bytes, area, out, full);
-            at = 0;
-        } else if at < line.len() {
-            line[at] = b;
-            at += 1;
-        }
-        i += 1;
-    }
-    io::write_all(1, &out[..full]);
-    at
+    let got = libc::read(0, chunk);
+    let n = lines::take_in(got, chunk, line, fill, table, bytes, area, out);
+    io::write_all(1, &out[..n]);
+    got
 }
 
-// Reads once.
-fn read_once(
+// Read after read, to the end of the input or to a read that fails, which is told.
+fn all(
+    chunk: &mut [u8],
     line: &mut [u8],
-    fill: usize,
     table: &mut [u16],
     bytes: &mut [u8],
     area: &mut [u16],
     out: &mut [u8],
-) -> Turn
-    requires { ⌜ fill ≤ length (now line) ⌝ }
+)
+    requires { ⌜ 8192 < length (now line) ⌝ }
     requires { ⌜ 8192 ≤ length (now table) ⌝ }
     requires { ⌜ 8192 ≤ length (now bytes) ⌝ }
     requires { ⌜ longest ≤ length (now out) ⌝ }
-    ensures { λ r. ⌜ Within r (length (now (line .entry))) ⌝ }
-{
-    let mut chunk = [0u8; 8192];
-    let got = libc::read(0, &mut chunk);
-    if got <= 0 {
-        return Turn::Done(fill);
-    }
-    let n = io::count(got, &chunk);
-    let left = feed(&chunk[..n], line, fill, table, bytes, area, out);
-    Turn::More(left)
-}
-
-// All of the input, and the last line where it lacks its newline.
-fn all(line: &mut [u8], table: &mut [u16], bytes: &mut [u8], area: &mut [u16], out: &mut [u8])
-    requires { ⌜ 8192 ≤ length (now table) ⌝ }
-    requires { ⌜ 8192 ≤ length (now bytes) ⌝ }
-    requires { ⌜ longest ≤ length (now out) ⌝ }
+    requires { ⌜ length (now chunk) * longest ≤ length (now out) ⌝ }
+    ensures { λ _. ⌜ Leaves (now (area .entry)) (now (area .exit)) ⌝ }
 {
     let mut fill: usize = 0;
+    let mut got: isize = 1;
     let mut turns = u64::MAX;
-    while turns > 0 {
-        match read_once(line, fill, table, bytes, area, out) {
-            Turn::More(n) => {
-                fill = n;
-                turns -= 1;
-            }
-            Turn::Done(n) => {
-                fill = n;
-                turns = 0;
-            }
-        }
+    while turns > 0 && got > 0 {
+        got = turn(chunk, line, &mut fill, table, bytes, area, out);
+        turns -= 1;
     }
-    if fill > 0 {
-        feed(b"\n", line, fill, table, bytes, area, out);
+    if got < 0 {
+        io::write_all(2, b"rehearse: standard input cannot be read\n");
     }
 }
 
+// How many bytes a read may bring, and how many the answers to them may have: each of the bytes may end a line.
+const PIECE: usize = 8192;
+
+const ANSWERS: usize = PIECE * print::LONGEST;
+
 fn main() {
+    let mut chunk = [0u8; PIECE];
     let mut line = [0u8; 8193];
     let mut table = [0u16; 8192];
     let mut bytes = [0u8; 8192];
     let mut area = [0u16; 8192];
-    let mut out = [0u8; 8192];
-    all(&mut line, &mut table, &mut bytes, &mut area, &mut out);
+    let mut out = [0u8; ANSWERS];
+    all(
+        &mut chunk,
+        &mut line,
+        &mut table,
+        &mut bytes,
+        &mut area,
+        &mut out,
+    );
 }

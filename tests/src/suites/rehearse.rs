@@ -1,5 +1,5 @@
 //! The program Rehearse as a process: scripts of right, wrong and spoiled lines, each answer's
-//! line against the reference.
+//! line against the reference; the same input in any pieces; a read that fails.
 
 use super::{Outcome, Tally};
 use crate::call::Call;
@@ -7,13 +7,16 @@ use crate::history;
 use crate::random::Random;
 use crate::reference::{self, Shape};
 use crate::sample;
-use std::io::{BufRead, BufReader, Read, Write};
+use std::io::{BufRead, BufReader, Read, Result as Done, Write};
+use std::os::fd::OwnedFd;
+use std::os::unix::net::UnixDatagram;
 use std::process::{Child, Command, Stdio};
 use std::thread;
 
 const PROGRAM: &str = concat!(env!("CARGO_MANIFEST_DIR"), "/../target/bin/rehearse");
 const AREA_WORDS: usize = 8_192;
 const LONGEST_LINE: usize = 8_192;
+const LONGEST_READ: usize = 8_192;
 const SHAPE: Shape = Shape {
     processes: 3,
     locks: 1,
@@ -25,7 +28,7 @@ pub fn run(tally: &mut Tally, random: &mut Random) -> Outcome {
     compare(tally, b"")?;
     compare(tally, b"\n")?;
     compare(tally, include_bytes!("../../../crates/rehearse/stdin"))?;
-    long_lines(tally)?;
+    compare(tally, &long_lines())?;
     clock_end(tally)?;
     wrong_alarms(tally)?;
     for _ in 0..60 {
@@ -33,7 +36,9 @@ pub fn run(tally: &mut Tally, random: &mut Random) -> Outcome {
         compare(tally, &script)?;
         compare(tally, &script[..script.len() - 1])?;
     }
-    line_by_line(tally, random)
+    line_by_line(tally, random)?;
+    any_pieces(tally, random)?;
+    failed_read(tally)
 }
 
 /// The line of a call, without its newline.
@@ -172,29 +177,45 @@ fn script(random: &mut Random, lines: usize) -> Vec<u8> {
     script
 }
 
-fn rehearse() -> Result<Child, String> {
+/// The program, with its input from here.
+fn rehearse(input: impl Into<Stdio>) -> Result<Child, String> {
     let mut command = Command::new(PROGRAM);
-    command.stdin(Stdio::piped()).stdout(Stdio::piped());
-    command.spawn().map_err(|why| format!("{PROGRAM}: {why}"))
+    command.stdin(input).stdout(Stdio::piped());
+    let child = command.stderr(Stdio::piped()).spawn();
+    child.map_err(|why| format!("{PROGRAM}: {why}"))
 }
 
-/// A whole script, with the reference's answers.
-fn compare(tally: &mut Tally, script: &[u8]) -> Outcome {
+/// The reference's answers to a whole script.
+fn answers_to(script: &[u8]) -> Vec<String> {
     let mut area = vec![0; AREA_WORDS];
     let whole = script.strip_suffix(b"\n").unwrap_or(script);
     let lines = whole.split(|&byte| byte == b'\n');
     let count = if script.is_empty() { 0 } else { usize::MAX };
-    let expected = lines.take(count).map(|line| answer_to(&mut area, line));
-    let expected: Vec<String> = expected.collect();
-    play(tally, script, &expected)
+    let answers = lines.take(count).map(|line| answer_to(&mut area, line));
+    answers.collect()
+}
+
+/// A whole script, with the reference's answers.
+fn compare(tally: &mut Tally, script: &[u8]) -> Outcome {
+    play(tally, script, &answers_to(script))
 }
 
 /// A whole script from a pipe, each answer's line.
 pub fn play(tally: &mut Tally, script: &[u8], expected: &[String]) -> Outcome {
-    let mut child = rehearse()?;
+    let mut child = rehearse(Stdio::piped())?;
     let mut input = child.stdin.take().expect("a pipe");
     let script = script.to_vec();
-    let writer = thread::spawn(move || input.write_all(&script));
+    hear(tally, child, move || input.write_all(&script), expected)
+}
+
+/// What the program answers while it is fed, line by line, to its end.
+fn hear(
+    tally: &mut Tally,
+    mut child: Child,
+    feed: impl FnOnce() -> Done<()> + Send + 'static,
+    expected: &[String],
+) -> Outcome {
+    let writer = thread::spawn(feed);
     let mut output = String::new();
     let mut pipe = child.stdout.take().expect("a pipe");
     let read = pipe.read_to_string(&mut output);
@@ -211,7 +232,7 @@ pub fn play(tally: &mut Tally, script: &[u8], expected: &[String]) -> Outcome {
 }
 
 /// Lines around the longest that is read, and far beyond it.
-fn long_lines(tally: &mut Tally) -> Outcome {
+fn long_lines() -> Vec<u8> {
     let mut script = line_of(&history::start(&mut Random::new(1), SHAPE));
     script.push(b'\n');
     for length in [LONGEST_LINE - 1, LONGEST_LINE, LONGEST_LINE + 1, 100_000] {
@@ -220,7 +241,7 @@ fn long_lines(tally: &mut Tally) -> Outcome {
         script.extend(std::iter::repeat_n(b'0', zeros));
         script.extend_from_slice(b"1\nexit 1\n");
     }
-    compare(tally, &script)
+    script
 }
 
 /// All Ticks that lead to the clock's end, and there a wait of one tick and one without ticks.
@@ -285,7 +306,7 @@ fn wrong_alarms(tally: &mut Tally) -> Outcome {
 /// Each answer comes before the next line is written, as at a terminal.
 fn line_by_line(tally: &mut Tally, random: &mut Random) -> Outcome {
     let mut area = vec![0; AREA_WORDS];
-    let mut child = rehearse()?;
+    let mut child = rehearse(Stdio::piped())?;
     let mut input = child.stdin.take().expect("a pipe");
     let mut output = BufReader::new(child.stdout.take().expect("a pipe"));
     let script = script(random, 1_000);
@@ -301,4 +322,61 @@ fn line_by_line(tally: &mut Tally, random: &mut Random) -> Outcome {
     drop(input);
     let ended = child.wait().map_err(|why| why.to_string())?;
     tally.holds(ended.success(), || "Rehearse ends".to_string())
+}
+
+/// Pieces of at most so many bytes that make the script.
+fn cut(random: &mut Random, script: &[u8], longest: usize) -> Vec<Vec<u8>> {
+    let mut pieces = Vec::new();
+    let mut rest = script;
+    while !rest.is_empty() {
+        let (piece, behind) = rest.split_at(rest.len().min(1 + random.below(longest)));
+        pieces.push(piece.to_vec());
+        rest = behind;
+    }
+    pieces
+}
+
+/// The same answers whatever the pieces: a read brings one datagram, and an empty one is the end.
+fn any_pieces(tally: &mut Tally, random: &mut Random) -> Outcome {
+    let mut scripts = vec![Vec::new(), b"\n".to_vec(), b"tick".to_vec(), long_lines()];
+    scripts.extend((0..8).map(|_| script(random, 300)));
+    for mut script in scripts {
+        for longest in [1, 3, 20, 500, LONGEST_READ] {
+            let expected = answers_to(&script);
+            let pieces = cut(random, &script, longest);
+            let (ours, theirs) = UnixDatagram::pair().map_err(|why| why.to_string())?;
+            let child = rehearse(OwnedFd::from(theirs))?;
+            let feed = move || {
+                let sent = pieces
+                    .iter()
+                    .try_for_each(|piece| ours.send(piece).map(drop));
+                sent.and_then(|()| ours.send(b"").map(drop))
+            };
+            hear(tally, child, feed, &expected)?;
+            // the last line loses its newline, and then its bytes
+            script.pop();
+        }
+    }
+    Ok(())
+}
+
+/// A read that fails is no end of the input: the lines before it are answered, the open one is
+/// not, and standard error says why there is no more.
+fn failed_read(tally: &mut Tally) -> Outcome {
+    let (ours, theirs) = UnixDatagram::pair().map_err(|why| why.to_string())?;
+    let pieces: [&[u8]; 2] = [b"start 3 1 1 0 2 5 2\nent", b"er 1\nexit 1"];
+    let sent = pieces
+        .iter()
+        .try_for_each(|piece| ours.send(piece).map(drop));
+    let ready = sent.and_then(|()| theirs.set_nonblocking(true));
+    ready.map_err(|why| why.to_string())?;
+    let child = rehearse(OwnedFd::from(theirs))?;
+    let ended = child.wait_with_output().map_err(|why| why.to_string())?;
+    let told = "rehearse: standard input cannot be read\n";
+    tally.same(&ended.stdout[..], b"0 2 0 0 0 0\n0 2 0 1 0 0\n", || {
+        "the answers before a read fails".to_string()
+    })?;
+    tally.same(&ended.stderr[..], told.as_bytes(), || {
+        "what is told of a read that fails".to_string()
+    })
 }

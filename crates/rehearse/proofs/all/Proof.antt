@@ -1,27 +1,33 @@
--- The open line stays within its room from read to read, and the turns that are left grow fewer. Assumes nothing.
+-- From read to read the area and the open line are what one input leaves, and the line stays within its room. The turns that are left grow fewer. Assumes nothing.
 use Prim.Native.Nat.{_≤_}
-use mathlib.Core.Path.{_≡_}
+use mathlib.Core.Path.{_≡_, refl, sym, subst}
 use native.Mathlib.Omega.{arith}
-use lib.ListN.{length}
+use mir.Syntax.{w64}
+use mir.Val.{toZ}
+use mir.ValLaws.{toZ-ofZ}
+use denote.Ref.{now}
+use lib.IntN.{ℤ}
+use lib.ListN.{length, take}
 use borrow.Author.Needs.{needs}
+use Rattle.lines.specs.Lines.{held}
+use Rattle.lines.proofs.Whole.{Stands, stands-first, stands-next, stands-leaves}
 use Rattle.rehearse.proofs.all.Statement.{statement}
 use Rattle.rehearse.proofs.all.Tie as tie
 
 abbrev Inv-loop : tie.InvT-loop
-Inv-loop line₀ table₀ bytes₀ area₀ out₀ fill₀ turns₀ t10 line table bytes area out fill turns =
-    (fill ≤ length line) × ((length line ≡ length line₀) × ((length table ≡ length table₀) × ((length bytes ≡ length bytes₀) × ((length area ≡ length area₀) × (length out ≡ length out₀)))))
+Inv-loop chunk₀ line₀ table₀ bytes₀ area₀ out₀ fill₀ got₀ turns₀ t10 chunk line table bytes area out fill got turns =
+    (fill ≤ length line)
+    × (length chunk ≡ length chunk₀) × (length line ≡ length line₀) × (length table ≡ length table₀) × (length bytes ≡ length bytes₀) × (length area ≡ length area₀) × (length out ≡ length out₀)
+    × Stands (toZ w64 got) area₀ (held line fill area)
 
 abbrev μ-loop : tie.MeasureT-loop
-μ-loop line₀ table₀ bytes₀ area₀ out₀ fill₀ turns₀ t10 line table bytes area out fill turns = turns
+μ-loop chunk₀ line₀ table₀ bytes₀ area₀ out₀ fill₀ got₀ turns₀ t10 chunk line table bytes area out fill got turns = turns
 
 loop-holds : tie.Need-loop-holds Inv-loop μ-loop
-loop-holds c = search needs
+loop-holds c = (omega arith, refl, refl, refl, refl, refl, refl, stands-first (now (c .before .before .before .before .before .before .args .line)) (now (c .before .before .before .before .before .before .args .area)))
 
-read-once-requires : tie.Need-read-once-requires Inv-loop μ-loop
-read-once-requires c κs = search needs
-
-enum-known-n : tie.Need-enum-known-n Inv-loop μ-loop
-enum-known-n c = search needs
+turn-requires : tie.Need-turn-requires Inv-loop μ-loop
+turn-requires c κs = search needs
 
 sub-turns : tie.Need-sub-turns Inv-loop μ-loop
 sub-turns c = search needs
@@ -31,27 +37,27 @@ loop-less c = search needs
 
 loop-again : tie.Need-loop-again Inv-loop μ-loop
 loop-again c =
-    let rd = c .before .before .before .before .before .before .before .before .before .before .before .before .before .read-once in
-    let k = rd .kept in
-    omega (arith, rw (c .before .n .given .1) at (rd .ensures), k .0, k .1 .1 .0, k .1 .1 .1 .0, k .1 .1 .1 .1 .0, k .1 .1 .1 .1 .1 .0)
+    let a = c .before .before .before .before .before .before .before .before .before .before .before .before .before .before .before .before .before .before .before .before .before .before .before .before .before .before .before .before .before .args in
+    let l = c .before .before .before .before .before .before .before .before .before .before .before .before .before .before .before .before .before .before .before .before .before .before .loop in
+    let t = c .before .before .before .before .before .before .before .before .before .before .before .before .turn in
+    let k = t .kept in
+    let h = held (l .line) (l .fill) (l .area) in
+    let h′ = held (t .last .1 .0) (t .last .1 .1 .0) (t .last .1 .1 .1 .1 .1 .0) in (
+      omega (arith, t .ensures .0, k),
+      omega (arith, k),
+      omega (arith, k),
+      omega (arith, k),
+      omega (arith, k),
+      omega (arith, k),
+      omega (arith, k),
+      subst (λ (z : ℤ). Stands z (now (a .area)) h′) (sym (toZ-ofZ w64 (t .result) (record { sfits = t .ok }))) (stands-next (toZ w64 (l .got)) (t .result) (now (a .area)) (t .last .0) (take (t .ensures .1 .0) (t .last .1 .1 .1 .1 .1 .1 .0)) h h′ (c .before .before .before .before .before .before .before .before .before .before .before .before .before .before .before .before .before .before .before .before .if1 .taken) (l .inv .7) (t .ensures .1 .1)),
+    )
 
-enum-known-n-2 : tie.Need-enum-known-n-2 Inv-loop μ-loop
-enum-known-n-2 c = search needs
+slice-aggregate-write-all : tie.Need-slice-aggregate-write-all Inv-loop μ-loop
+slice-aggregate-write-all c = search needs
 
-loop-less-2 : tie.Need-loop-less-2 Inv-loop μ-loop
-loop-less-2 c = search needs
-
-loop-again-2 : tie.Need-loop-again-2 Inv-loop μ-loop
-loop-again-2 c =
-    let rd = c .before .before .before .before .before .before .before .before .before .before .before .before .before .read-once in
-    let k = rd .kept in
-    omega (arith, rw (c .before .n2 .given .1) at (rd .ensures), k .0, k .1 .1 .0, k .1 .1 .1 .0, k .1 .1 .1 .1 .0, k .1 .1 .1 .1 .1 .0)
-
-slice-aggregate-feed : tie.Need-slice-aggregate-feed Inv-loop μ-loop
-slice-aggregate-feed c = search needs
-
-feed-requires : tie.Need-feed-requires Inv-loop μ-loop
-feed-requires c κs = search needs
+write-all-requires : tie.Need-write-all-requires Inv-loop μ-loop
+write-all-requires c κs = search needs
 
 same-length : tie.Need-same-length Inv-loop μ-loop
 same-length c = search needs
@@ -68,11 +74,11 @@ same-length-4 c = search needs
 same-length-5 : tie.Need-same-length-5 Inv-loop μ-loop
 same-length-5 c = search needs
 
-returns : tie.Need-returns Inv-loop μ-loop
-returns c = search needs
-
 same-length-6 : tie.Need-same-length-6 Inv-loop μ-loop
 same-length-6 c = search needs
+
+returns : tie.Need-returns Inv-loop μ-loop
+returns c = let l = c .before .before .before .before .loop in stands-leaves (toZ w64 (l .got)) (now (c .before .before .before .before .before .before .before .before .before .before .before .args .area)) (held (l .line) (l .fill) (l .area)) (l .inv .7)
 
 same-length-7 : tie.Need-same-length-7 Inv-loop μ-loop
 same-length-7 c = search needs
@@ -86,8 +92,14 @@ same-length-9 c = search needs
 same-length-10 : tie.Need-same-length-10 Inv-loop μ-loop
 same-length-10 c = search needs
 
+same-length-11 : tie.Need-same-length-11 Inv-loop μ-loop
+same-length-11 c = search needs
+
+same-length-12 : tie.Need-same-length-12 Inv-loop μ-loop
+same-length-12 c = search needs
+
 returns-2 : tie.Need-returns-2 Inv-loop μ-loop
-returns-2 c = search needs
+returns-2 c = let l = c .before .before .loop in stands-leaves (toZ w64 (l .got)) (now (c .before .before .before .before .before .before .before .before .before .args .area)) (held (l .line) (l .fill) (l .area)) (l .inv .7)
 
 pub all-spec : {M : Type 1} → statement M
 all-spec =
@@ -96,25 +108,23 @@ all-spec =
     Inv-loop
     μ-loop
     loop-holds
-    read-once-requires
-    enum-known-n
+    turn-requires
     sub-turns
     loop-less
     loop-again
-    enum-known-n-2
-    loop-less-2
-    loop-again-2
-    slice-aggregate-feed
-    feed-requires
+    slice-aggregate-write-all
+    write-all-requires
     same-length
     same-length-2
     same-length-3
     same-length-4
     same-length-5
-    returns
     same-length-6
+    returns
     same-length-7
     same-length-8
     same-length-9
     same-length-10
+    same-length-11
+    same-length-12
     returns-2)
