@@ -1,6 +1,5 @@
 // Input in pieces, as C's read brings it: cut into lines, each line served, the answers gathered for one write. Assumes nothing.
 ghost use Prim.Native.Nat.{_+_, _*_, _≤_, _<_};
-ghost use mathlib.Core.List.{_++_};
 ghost use lib.ListN.{length, take};
 ghost use Rattle.print.specs.Print.{longest};
 ghost use Rattle.lines.specs.Lines.{held, Puts, Feeds, Closes, Takes};

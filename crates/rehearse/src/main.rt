@@ -57,14 +57,18 @@ fn all(
     }
 }
 
-// How many bytes a read may bring, and how many the answers to them may have: each of the bytes may end a line.
+// How many bytes a read may bring.
 const PIECE: usize = 8192;
 
+// How many bytes the answers to them may have: each byte may end a line.
 const ANSWERS: usize = PIECE * print::LONGEST;
+
+// How many bytes of a line are kept: one more than a line that means something has at most.
+const ROOM: usize = 8193;
 
 fn main() {
     let mut chunk = [0u8; PIECE];
-    let mut line = [0u8; 8193];
+    let mut line = [0u8; ROOM];
     let mut table = [0u16; 8192];
     let mut bytes = [0u8; 8192];
     let mut area = [0u16; 8192];

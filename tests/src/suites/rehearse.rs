@@ -336,23 +336,25 @@ fn cut(random: &mut Random, script: &[u8], longest: usize) -> Vec<Vec<u8>> {
     pieces
 }
 
-/// The same answers whatever the pieces: a read brings one datagram, and an empty one is the end.
+/// Sends each piece as a datagram, which is what one read brings; an empty one is the end of the
+/// input.
+fn send(socket: &UnixDatagram, pieces: &[Vec<u8>]) -> Done<()> {
+    let mut pieces = pieces.iter();
+    pieces.try_for_each(|piece| socket.send(piece).map(drop))
+}
+
+/// The same answers whatever the pieces.
 fn any_pieces(tally: &mut Tally, random: &mut Random) -> Outcome {
-    let mut scripts = vec![Vec::new(), b"\n".to_vec(), b"tick".to_vec(), long_lines()];
+    let mut scripts = vec![vec![], b"\n".to_vec(), b"tick".to_vec(), long_lines()];
     scripts.extend((0..8).map(|_| script(random, 300)));
     for mut script in scripts {
         for longest in [1, 3, 20, 500, LONGEST_READ] {
-            let expected = answers_to(&script);
-            let pieces = cut(random, &script, longest);
+            let mut pieces = cut(random, &script, longest);
+            pieces.push(vec![]);
             let (ours, theirs) = UnixDatagram::pair().map_err(|why| why.to_string())?;
             let child = rehearse(OwnedFd::from(theirs))?;
-            let feed = move || {
-                let sent = pieces
-                    .iter()
-                    .try_for_each(|piece| ours.send(piece).map(drop));
-                sent.and_then(|()| ours.send(b"").map(drop))
-            };
-            hear(tally, child, feed, &expected)?;
+            let feed = move || send(&ours, &pieces);
+            hear(tally, child, feed, &answers_to(&script))?;
             // the last line loses its newline, and then its bytes
             script.pop();
         }
@@ -363,20 +365,19 @@ fn any_pieces(tally: &mut Tally, random: &mut Random) -> Outcome {
 /// A read that fails is no end of the input: the lines before it are answered, the open one is
 /// not, and standard error says why there is no more.
 fn failed_read(tally: &mut Tally) -> Outcome {
+    let pieces = ["start 3 1 1 0 2 5 2\nent", "er 1\nexit 1"];
     let (ours, theirs) = UnixDatagram::pair().map_err(|why| why.to_string())?;
-    let pieces: [&[u8]; 2] = [b"start 3 1 1 0 2 5 2\nent", b"er 1\nexit 1"];
-    let sent = pieces
-        .iter()
-        .try_for_each(|piece| ours.send(piece).map(drop));
+    let sent = send(&ours, &pieces.map(|piece| piece.into()));
     let ready = sent.and_then(|()| theirs.set_nonblocking(true));
     ready.map_err(|why| why.to_string())?;
     let child = rehearse(OwnedFd::from(theirs))?;
     let ended = child.wait_with_output().map_err(|why| why.to_string())?;
-    let told = "rehearse: standard input cannot be read\n";
-    tally.same(&ended.stdout[..], b"0 2 0 0 0 0\n0 2 0 1 0 0\n", || {
-        "the answers before a read fails".to_string()
+    let answered = b"0 2 0 0 0 0\n0 2 0 1 0 0\n";
+    let told = b"rehearse: standard input cannot be read\n";
+    tally.same(&ended.stdout[..], answered, || {
+        "answers before a read that fails".to_string()
     })?;
-    tally.same(&ended.stderr[..], told.as_bytes(), || {
+    tally.same(&ended.stderr[..], told, || {
         "what is told of a read that fails".to_string()
     })
 }

@@ -1,6 +1,5 @@
 -- What was read is taken in, and so many bytes of what came of it are written. Assumes nothing.
 use mathlib.Core.Path.{sym}
-use native.Mathlib.Omega.{arith}
 use lib.Seq.{length-take-le}
 use borrow.Author.Needs.{needs}
 use Rattle.rehearse.proofs.turn.Statement.{statement}
