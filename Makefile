@@ -36,9 +36,9 @@ target/%: examples/%.c lib include/kernel.h
 run: rehearse
 	target/bin/rehearse < $(SCRIPT) | paste $(SCRIPT) -
 
-# what the tests run, proved side by side
+# what the tests need, side by side: the program, and all that the library stands on
 build:
-	rt check rehearse kernel
+	rt check rehearse runs
 
 test: build
 	$(MAKE) target/nine target/probe target/sheet
