@@ -130,7 +130,7 @@ module _ (chunk out : List ℕ) (h h′ : Held) where
   pub takes-end : (got : ℤ) → got ≡ pos 0 → Closes h h′ out → Takes got chunk h h′ out
   takes-end got e C = subst (λ (z : ℤ). Takes z chunk h h′ out) (sym e) C
 
-  pub takes-piece : (got : ℤ) → ltZ got (pos 0) ≡ false → got ≢ pos 0 → Feeds (take (clamped got (length chunk)) chunk) h h′ out → Takes got chunk h h′ out
-  takes-piece (pos zero) e n F = absurd (n refl)
-  takes-piece (pos (suc k)) e n F = subst (λ (xs : List ℕ). Feeds xs h h′ out) (take-min (suc k) chunk) F
-  takes-piece (negsuc k) e n F = absurd (true≢false e)
+  pub takes-piece : (got : ℤ) (n : ℕ) → ltZ got (pos 0) ≡ false → got ≢ pos 0 → n ≡ clamped got (length chunk) → Feeds (take n chunk) h h′ out → Takes got chunk h h′ out
+  takes-piece (pos zero) n e z k F = absurd (z refl)
+  takes-piece (pos (suc m)) n e z k F = subst (λ (xs : List ℕ). Feeds xs h h′ out) (ap (λ (i : ℕ). take i chunk) k ∙ take-min (suc m) chunk) F
+  takes-piece (negsuc m) n e z k F = absurd (true≢false e)

@@ -38,7 +38,7 @@ fn step<'a>(w: Walker<'a>) -> Walker<'a>
 }
 
 // Whether another than the tail is behind p.
-fn goes_on(records: &[u16], p: u16, tail: u16) -> bool
+pub fn goes_on(records: &[u16], p: u16, tail: u16) -> bool
     requires { ⌜ Stands (now records) p × (tail < 1024) ⌝ }
     ensures { λ r. ⌜ r ≡ not (eqb (next (now (records .entry)) p) tail) ⌝ }
 {

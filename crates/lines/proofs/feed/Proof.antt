@@ -1,6 +1,6 @@
 -- The bytes so far are fed: that is the invariant, beside the room that is left for the line and for its answer. Each turn takes one byte. Assumes nothing.
 use Prim.Native.Nat.{ℕ, _≤_, _-_, _*_}
-use mathlib.Core.Path.{_≡_, refl, sym, ap, subst}
+use mathlib.Core.Path.{_≡_, sym, ap, subst}
 use mathlib.Core.Logic.{⊎-elim}
 use native.Mathlib.Omega.{arith}
 use denote.Ref.{now}
@@ -16,15 +16,15 @@ use Rattle.lines.proofs.feed.Tie as tie
 
 abbrev Inv-loop : tie.InvT-loop
 Inv-loop piece line₀ fill table₀ bytes₀ area₀ out₀ at₀ full₀ i₀ line table bytes area out at full i =
-    (at ≤ length line) × (full ≤ i * longest) × (i ≤ length piece)
-    × (length line ≡ length line₀) × (length table ≡ length table₀) × (length bytes ≡ length bytes₀) × (length area ≡ length area₀) × (length out ≡ length out₀)
+    ((at ≤ length line) × (full ≤ i * longest) × (i ≤ length piece)
+    × (length line ≡ length line₀) × (length table ≡ length table₀) × (length bytes ≡ length bytes₀) × (length area ≡ length area₀) × (length out ≡ length out₀))
     × Feeds (take i piece) (held line₀ fill area₀) (held line at area) (take full out)
 
 abbrev μ-loop : tie.MeasureT-loop
 μ-loop piece line₀ fill table₀ bytes₀ area₀ out₀ at₀ full₀ i₀ line table bytes area out at full i = length piece - i
 
 loop-holds : tie.Need-loop-holds Inv-loop μ-loop
-loop-holds c = (omega arith, omega arith, omega arith, refl, refl, refl, refl, refl, feeds-none)
+loop-holds c = (omega arith, feeds-none)
 
 shared-slice-read-b : tie.Need-shared-slice-read-b Inv-loop μ-loop
 shared-slice-read-b c = search needs
@@ -35,7 +35,7 @@ slice-reshare-prefix-answer c = search needs
 slice-aggregate-answer : tie.Need-slice-aggregate-answer Inv-loop μ-loop
 slice-aggregate-answer c =
     let loop = c .before .before .before .before .loop in
-    sym (length-take-le (loop .at) (loop .line) (loop .inv .0))
+    sym (length-take-le (loop .at) (loop .line) (loop .inv .0 .0))
 
 answer-requires : tie.Need-answer-requires Inv-loop μ-loop
 answer-requires c κs = search needs
@@ -59,38 +59,17 @@ loop-again c =
     let on = feeds-on p (l .i) (c .before .before .loop-test .taken) in
     ⊎-elim
     (λ w. let k = w .6 .kept .1 in (
-      omega (arith, w .20),
-      omega (arith, w .21, w .6 .ensures .0),
-      omega arith,
-      omega (arith, ap length (w .15)),
-      omega (arith, ap length (w .16), k .0),
-      omega (arith, ap length (w .17), k .1 .0),
-      omega (arith, ap length (w .18), k .1 .1 .0),
-      omega (arith, ap length (w .19), k .1 .1 .1 .0),
-      on (feeds-as (w .15) (w .20) (w .18) (w .21) (w .19) (feeds-newline (l .inv .8) (getD p (l .i) 0) _ _ (w .0 .taken) (omega arith) (w .6 .ensures .1))),
+      omega (arith, ap length (w .15), ap length (w .16), ap length (w .17), ap length (w .18), ap length (w .19), w .20, w .21, w .6 .ensures .0, k .0, k .1 .0, k .1 .1 .0, k .1 .1 .1 .0),
+      on (feeds-as (w .15) (w .20) (w .18) (w .21) (w .19) (feeds-newline (l .inv .1) (getD p (l .i) 0) _ _ (w .0 .taken) (omega arith) (w .6 .ensures .1))),
     ))
     (λ v. ⊎-elim
     (λ w. (
-      omega (arith, w .7, length-set (l .line) (l .at) (getD p (l .i) 0), ap length (w .2)),
-      omega (arith, w .8),
-      omega arith,
-      omega (arith, length-set (l .line) (l .at) (getD p (l .i) 0), ap length (w .2)),
-      omega (arith, ap length (w .3)),
-      omega (arith, ap length (w .4)),
-      omega (arith, ap length (w .5)),
-      omega (arith, ap length (w .6)),
-      on (feeds-as (w .2) (w .7) (w .5) (w .8) (w .6) (feeds-byte (l .inv .8) (getD p (l .i) 0) (w .0 .left) (omega arith))),
+      omega (arith, simp length-set at (ap length (w .2)), ap length (w .3), ap length (w .4), ap length (w .5), ap length (w .6), w .7, w .8),
+      on (feeds-as (w .2) (w .7) (w .5) (w .8) (w .6) (feeds-byte (l .inv .1) (getD p (l .i) 0) (w .0 .left) (omega arith))),
     ))
     (λ w. (
-      omega (arith, w .7, ap length (w .2)),
-      omega (arith, w .8),
-      omega arith,
-      omega (arith, ap length (w .2)),
-      omega (arith, ap length (w .3)),
-      omega (arith, ap length (w .4)),
-      omega (arith, ap length (w .5)),
-      omega (arith, ap length (w .6)),
-      on (feeds-as (w .2) (w .7) (w .5) (w .8) (w .6) (feeds-over (l .inv .8) (getD p (l .i) 0) (w .0 .left) (omega arith) (omega arith))),
+      omega (arith, ap length (w .2), ap length (w .3), ap length (w .4), ap length (w .5), ap length (w .6), w .7, w .8),
+      on (feeds-as (w .2) (w .7) (w .5) (w .8) (w .6) (feeds-over (l .inv .1) (getD p (l .i) 0) (w .0 .left) (omega arith) (omega arith))),
     )) v)
     (c .if1 .came)
 
@@ -113,7 +92,7 @@ returns : tie.Need-returns Inv-loop μ-loop
 returns c =
     let a = c .before .before .before .before .before .before .before .before .before .args in
     let l = c .before .loop in
-    (omega arith, (omega arith, subst (λ (xs : List ℕ). Feeds xs (held (now (a .line)) (now (a .fill)) (now (a .area))) (held (l .line) (l .at) (l .area)) (take (l .full) (l .out))) (take-all (l .i) (now (a .piece)) (omega arith)) (l .inv .8)))
+    (omega arith, (omega arith, subst (λ (xs : List ℕ). Feeds xs (held (now (a .line)) (now (a .fill)) (now (a .area))) (held (l .line) (l .at) (l .area)) (take (l .full) (l .out))) (take-all (l .i) (now (a .piece)) (omega arith)) (l .inv .1)))
 
 pub feed-spec : {M : Type 1} → statement M
 feed-spec =

@@ -1,6 +1,6 @@
 -- What was read decides what is done with it. A signed number is kept as bits, so each test is taken back to the number. Assumes nothing.
-use Prim.Native.Nat.{ℕ}
-use mathlib.Core.Path.{sym, ap, _∙_, subst}
+use mathlib.Core.Path.{sym, ap, _∙_}
+use mathlib.Core.Logic.{_≢_}
 use native.Mathlib.Omega.{arith}
 use mir.Syntax.{w64}
 use mir.Val.{toZ, ofZ}
@@ -11,7 +11,7 @@ use lib.Signed.{ltZ}
 use lib.ListN.{length, take}
 use borrow.Author.Needs.{needs}
 use Rattle.io.specs.Counts.{clamped}
-use Rattle.lines.specs.Lines.{held, Feeds}
+use Rattle.lines.specs.Lines.{held}
 use Rattle.lines.proofs.Feeding.{takes-none, takes-end, takes-piece}
 use Rattle.lines.proofs.take_in.Statement.{statement}
 use Rattle.lines.proofs.take_in.Tie as tie
@@ -20,7 +20,9 @@ returns : tie.Need-returns
 returns c =
     let f = c .before .before .before .before .before .before .before in
     let a = f .args in
-    (omega arith, (omega arith, takes-none (now (a .chunk)) (held (now (a .line)) (now (a .fill)) (now (a .area))) (a .got) (sym (ap (λ (z : ℤ). ltZ z (pos 0)) (toZ-ofZ w64 (a .got) (f .fits .got))) ∙ c .if1 .taken)))
+    let h = held (now (a .line)) (now (a .fill)) (now (a .area)) in
+    let failed = sym (ap (λ (z : ℤ). ltZ z (pos 0)) (toZ-ofZ w64 (a .got) (f .fits .got))) ∙ c .if1 .taken in
+    (omega arith, (omega arith, takes-none (now (a .chunk)) h (a .got) failed))
 
 close-requires : tie.Need-close-requires
 close-requires c κs = search needs
@@ -45,7 +47,10 @@ returns-2 c =
     let f = c .before .before .before .before .before .before .before .before .before .before .before .before .before .before .before .before .before .before .before .before .before .before .before in
     let a = f .args in
     let w = c .before .before .before .before .before .before .before .before .close in
-    (w .ensures .0, (omega arith, takes-end (now (a .chunk)) (take (w .result) (w .last .1 .1 .1 .1 .1 .0)) (held (now (a .line)) (now (a .fill)) (now (a .area))) (held (now (a .line)) (now (a .fill)) (w .last .1 .1 .1 .1 .0)) (a .got) (sym (toZ-ofZ w64 (a .got) (f .fits .got)) ∙ ap (toZ w64) (c .before .before .before .before .before .before .before .before .before .before .before .before .before .before .before .if2 .taken)) (w .ensures .1)))
+    let h = held (now (a .line)) (now (a .fill)) (now (a .area)) in
+    let h′ = held (now (a .line)) (now (a .fill)) (w .last .1 .1 .1 .1 .0) in
+    let none = sym (toZ-ofZ w64 (a .got) (f .fits .got)) ∙ ap (toZ w64) (c .before .before .before .before .before .before .before .before .before .before .before .before .before .before .before .if2 .taken) in
+    (w .ensures .0, (omega arith, takes-end (now (a .chunk)) (take (w .result) (w .last .1 .1 .1 .1 .1 .0)) h h′ (a .got) none (w .ensures .1)))
 
 count-requires : tie.Need-count-requires
 count-requires c κs = search needs
@@ -77,7 +82,13 @@ returns-3 c =
     let a = f .args in
     let w = c .before .before .before .before .before .before .before .before .before .before .feed in
     let n = c .before .before .before .before .before .before .before .before .before .before .before .before .before .before .before .before .before .before .count in
-    (w .ensures .0, (w .ensures .1 .0, takes-piece (now (a .chunk)) (take (w .result) (w .last .1 .1 .1 .1 .1 .1 .0)) (held (now (a .line)) (now (a .fill)) (now (a .area))) (held (w .last .1 .0) (w .last .1 .1 .0) (w .last .1 .1 .1 .1 .1 .0)) (a .got) (sym (ap (λ (z : ℤ). ltZ z (pos 0)) (toZ-ofZ w64 (a .got) (f .fits .got))) ∙ c .before .before .before .before .before .before .before .before .before .before .before .before .before .before .before .before .before .before .before .before .if1 .left) (λ e. c .before .before .before .before .before .before .before .before .before .before .before .before .before .before .before .before .before .before .before .if2 .left (ap (ofZ w64) e)) (subst (λ (k : ℕ). Feeds (take k (now (a .chunk))) (held (now (a .line)) (now (a .fill)) (now (a .area))) (held (w .last .1 .0) (w .last .1 .1 .0) (w .last .1 .1 .1 .1 .1 .0)) (take (w .result) (w .last .1 .1 .1 .1 .1 .1 .0))) (n .ensures .1 ∙ ap (λ (z : ℤ). clamped z (length (now (a .chunk)))) (toZ-ofZ w64 (a .got) (f .fits .got))) (w .ensures .1 .1))))
+    let h = held (now (a .line)) (now (a .fill)) (now (a .area)) in
+    let h′ = held (w .last .1 .0) (w .last .1 .1 .0) (w .last .1 .1 .1 .1 .1 .0) in
+    let back = toZ-ofZ w64 (a .got) (f .fits .got) in
+    let worked = sym (ap (λ (z : ℤ). ltZ z (pos 0)) back) ∙ c .before .before .before .before .before .before .before .before .before .before .before .before .before .before .before .before .before .before .before .before .if1 .left in
+    let some : a .got ≢ pos 0 = λ e. c .before .before .before .before .before .before .before .before .before .before .before .before .before .before .before .before .before .before .before .if2 .left (ap (ofZ w64) e) in
+    let many = n .ensures .1 ∙ ap (λ (z : ℤ). clamped z (length (now (a .chunk)))) back in
+    (w .ensures .0, (w .ensures .1 .0, takes-piece (now (a .chunk)) (take (w .result) (w .last .1 .1 .1 .1 .1 .1 .0)) h h′ (a .got) (n .result) worked some many (w .ensures .1 .1)))
 
 pub take-in-spec : {M : Type 1} → statement M
 take-in-spec =

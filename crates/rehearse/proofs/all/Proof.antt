@@ -1,6 +1,6 @@
 -- From read to read the area and the open line are what one input leaves, and the line stays within its room. The turns that are left grow fewer. Assumes nothing.
 use Prim.Native.Nat.{_≤_}
-use mathlib.Core.Path.{_≡_, refl, sym, subst}
+use mathlib.Core.Path.{_≡_, sym, subst}
 use native.Mathlib.Omega.{arith}
 use mir.Syntax.{w64}
 use mir.Val.{toZ}
@@ -16,15 +16,15 @@ use Rattle.rehearse.proofs.all.Tie as tie
 
 abbrev Inv-loop : tie.InvT-loop
 Inv-loop chunk₀ line₀ table₀ bytes₀ area₀ out₀ fill₀ got₀ turns₀ t10 chunk line table bytes area out fill got turns =
-    (fill ≤ length line)
-    × (length chunk ≡ length chunk₀) × (length line ≡ length line₀) × (length table ≡ length table₀) × (length bytes ≡ length bytes₀) × (length area ≡ length area₀) × (length out ≡ length out₀)
+    ((fill ≤ length line)
+    × (length chunk ≡ length chunk₀) × (length line ≡ length line₀) × (length table ≡ length table₀) × (length bytes ≡ length bytes₀) × (length area ≡ length area₀) × (length out ≡ length out₀))
     × Stands (toZ w64 got) area₀ (held line fill area)
 
 abbrev μ-loop : tie.MeasureT-loop
 μ-loop chunk₀ line₀ table₀ bytes₀ area₀ out₀ fill₀ got₀ turns₀ t10 chunk line table bytes area out fill got turns = turns
 
 loop-holds : tie.Need-loop-holds Inv-loop μ-loop
-loop-holds c = (omega arith, refl, refl, refl, refl, refl, refl, stands-first (now (c .before .before .before .before .before .before .args .line)) (now (c .before .before .before .before .before .before .args .area)))
+loop-holds c = (omega arith, stands-first (now (c .before .before .before .before .before .before .args .line)) (now (c .before .before .before .before .before .before .args .area)))
 
 turn-requires : tie.Need-turn-requires Inv-loop μ-loop
 turn-requires c κs = search needs
@@ -44,13 +44,7 @@ loop-again c =
     let h = held (l .line) (l .fill) (l .area) in
     let h′ = held (t .last .1 .0) (t .last .1 .1 .0) (t .last .1 .1 .1 .1 .1 .0) in (
       omega (arith, t .ensures .0, k),
-      omega (arith, k),
-      omega (arith, k),
-      omega (arith, k),
-      omega (arith, k),
-      omega (arith, k),
-      omega (arith, k),
-      subst (λ (z : ℤ). Stands z (now (a .area)) h′) (sym (toZ-ofZ w64 (t .result) (record { sfits = t .ok }))) (stands-next (toZ w64 (l .got)) (t .result) (now (a .area)) (t .last .0) (take (t .ensures .1 .0) (t .last .1 .1 .1 .1 .1 .1 .0)) h h′ (c .before .before .before .before .before .before .before .before .before .before .before .before .before .before .before .before .before .before .before .before .if1 .taken) (l .inv .7) (t .ensures .1 .1)),
+      subst (λ (z : ℤ). Stands z (now (a .area)) h′) (sym (toZ-ofZ w64 (t .result) (record { sfits = t .ok }))) (stands-next (toZ w64 (l .got)) (t .result) (now (a .area)) (t .last .0) (take (t .ensures .1 .0) (t .last .1 .1 .1 .1 .1 .1 .0)) h h′ (c .before .before .before .before .before .before .before .before .before .before .before .before .before .before .before .before .before .before .before .before .if1 .taken) (l .inv .1) (t .ensures .1 .1)),
     )
 
 slice-aggregate-write-all : tie.Need-slice-aggregate-write-all Inv-loop μ-loop
@@ -78,7 +72,7 @@ same-length-6 : tie.Need-same-length-6 Inv-loop μ-loop
 same-length-6 c = search needs
 
 returns : tie.Need-returns Inv-loop μ-loop
-returns c = let l = c .before .before .before .before .loop in stands-leaves (toZ w64 (l .got)) (now (c .before .before .before .before .before .before .before .before .before .before .before .args .area)) (held (l .line) (l .fill) (l .area)) (l .inv .7)
+returns c = let l = c .before .before .before .before .loop in stands-leaves (toZ w64 (l .got)) (now (c .before .before .before .before .before .before .before .before .before .before .before .args .area)) (held (l .line) (l .fill) (l .area)) (l .inv .1)
 
 same-length-7 : tie.Need-same-length-7 Inv-loop μ-loop
 same-length-7 c = search needs
@@ -99,7 +93,7 @@ same-length-12 : tie.Need-same-length-12 Inv-loop μ-loop
 same-length-12 c = search needs
 
 returns-2 : tie.Need-returns-2 Inv-loop μ-loop
-returns-2 c = let l = c .before .before .loop in stands-leaves (toZ w64 (l .got)) (now (c .before .before .before .before .before .before .before .before .before .args .area)) (held (l .line) (l .fill) (l .area)) (l .inv .7)
+returns-2 c = let l = c .before .before .loop in stands-leaves (toZ w64 (l .got)) (now (c .before .before .before .before .before .before .before .before .before .args .area)) (held (l .line) (l .fill) (l .area)) (l .inv .1)
 
 pub all-spec : {M : Type 1} → statement M
 all-spec =
