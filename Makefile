@@ -1,5 +1,6 @@
 # make lib:            the library, target/staticlib/libkernel.a.
 # make rehearse:       the program Rehearse, target/bin/rehearse.
+# make build:          proves what the tests need, side by side: the program, and all that the library stands on.
 # make run:            builds Rehearse and plays SCRIPT through it, each line beside its answer.
 # make test:           every test and proof, from nothing; its last step is the gate of the proof kit.
 # make bench:          the library against plain C on the same work, as ratios; the best of four places in a cache line.
@@ -36,7 +37,6 @@ target/%: examples/%.c lib include/kernel.h
 run: rehearse
 	target/bin/rehearse < $(SCRIPT) | paste $(SCRIPT) -
 
-# what the tests need, side by side: the program, and all that the library stands on
 build:
 	rt check rehearse runs
 
