@@ -19,20 +19,20 @@ use Rattle.script.specs.Line.{Meaning, meaning}
 use Rattle.script.specs.Line.Meaning.{call, start, none as nothing}
 use Rattle.print.specs.Print.{printed}
 use Rattle.serve.specs.Serve.{Serves, Played}
-use Rattle.lines.specs.Lines.{linesOf, joined, Answered, Held, held, After, Feeds, Takes, Rehearsal, Whole, Leaves}
+use Rattle.lines.specs.Lines.{linesOf, joined, Answered, Progress, progress, After, Feeds, TakesIn, Rehearsal, Whole, Rehearsed}
 use Rattle.lines.proofs.Feeding.{after-none}
 
 -- ---- piece by piece
 
-fed-after : {pieces : List (List ℕ)} {h h′ : Held} {outs : List (List ℕ)} {begun input told : List ℕ}
+fed-after : {pieces : List (List ℕ)} {h h′ : Progress} {outs : List (List ℕ)} {begun input told : List ℕ}
     → Run Feeds pieces h h′ outs → After begun input h told → After begun (input ++ joined pieces) h′ (told ++ joined outs)
 fed-after {h = h} {begun = begun} {input} {told} none A = subst (λ (i : List ℕ). After begun i h (told ++ [])) (sym (append-nil input)) (subst (After begun input h) (sym (append-nil told)) A)
 fed-after {h′ = h′} {begun = begun} {input} {told} (then {c = p} {cs = ps} {a = o} {rs = os} F R) A =
     subst (λ (i : List ℕ). After begun i h′ (told ++ (o ++ joined os))) (append-assoc input p (joined ps))
     (subst (After begun (input ++ p ++ joined ps) h′) (append-assoc told o (joined os)) (fed-after R (F begun input told A)))
 
-so-far : {pieces outs : List (List ℕ)} {h h′ : Held} → h .fill ≡ 0 → Run Feeds pieces h h′ outs → After (h .area) (joined pieces) h′ (joined outs)
-so-far {h = h} z R = fed-after R (subst (λ (k : ℕ). After (h .area) [] (held (h .line) k (h .area)) []) (sym z) (after-none (h .line) (h .area)))
+so-far : {pieces outs : List (List ℕ)} {h h′ : Progress} → h .fill ≡ 0 → Run Feeds pieces h h′ outs → After (h .area) (joined pieces) h′ (joined outs)
+so-far {h = h} z R = fed-after R (subst (λ (k : ℕ). After (h .area) [] (progress (h .line) k (h .area)) []) (sym z) (after-none (h .line) (h .area)))
 
 all-answered : {pieces : List (List ℕ)} {begun area told : List ℕ} → Rehearsal pieces begun area told → Answered (linesOf (joined pieces)) begun area told
 all-answered {pieces} {begun} {area} {told} R =
@@ -74,23 +74,23 @@ whole = record {
 -- ---- read by read
 
 -- after a read that answered so: the input has come to its end, or is open still
-abbrev pub Stands : ℤ → List ℕ → Held → Type 0
-Stands (pos zero) begun h = (input told : List ℕ) × Answered (linesOf input) begun (h .area) told
-Stands (pos (suc k)) begun h = (input told : List ℕ) × After begun input h told
-Stands (negsuc k) begun h = (input told : List ℕ) × After begun input h told
+abbrev pub AfterRead : ℤ → List ℕ → Progress → Type 0
+AfterRead (pos zero) begun h = (input told : List ℕ) × Answered (linesOf input) begun (h .area) told
+AfterRead (pos (suc k)) begun h = (input told : List ℕ) × After begun input h told
+AfterRead (negsuc k) begun h = (input told : List ℕ) × After begun input h told
 
-pub stands-first : (line begun : List ℕ) → Stands (pos 1) begun (held line 0 begun)
-stands-first line begun = ([], [], after-none line begun)
+pub read-first : (line begun : List ℕ) → AfterRead (pos 1) begun (progress line 0 begun)
+read-first line begun = ([], [], after-none line begun)
 
 -- where there was more to come, the next read goes on
-pub stands-next : (got next : ℤ) (begun bytes out : List ℕ) (h h′ : Held) → ltZ (pos 0) got ≡ true → Stands got begun h → Takes next bytes h h′ out → Stands next begun h′
-stands-next (pos zero) next begun bytes out h h′ e S T = absurd (false≢true e)
-stands-next (pos (suc k)) (pos zero) begun bytes out h h′ e (input, told, A) T = (input, told ++ out, T begun input told A)
-stands-next (pos (suc k)) (pos (suc n)) begun bytes out h h′ e (input, told, A) T = (input ++ take (suc n) bytes, told ++ out, T begun input told A)
-stands-next (pos (suc k)) (negsuc n) begun bytes out h h′ e (input, told, A) T = (input, told, subst (λ (x : Held). After begun input x told) (sym (T .0)) A)
-stands-next (negsuc k) next begun bytes out h h′ e S T = absurd (false≢true e)
+pub read-next : (got next : ℤ) (begun bytes out : List ℕ) (h h′ : Progress) → ltZ (pos 0) got ≡ true → AfterRead got begun h → TakesIn next bytes h h′ out → AfterRead next begun h′
+read-next (pos zero) next begun bytes out h h′ e S T = absurd (false≢true e)
+read-next (pos (suc k)) (pos zero) begun bytes out h h′ e (input, told, A) T = (input, told ++ out, T begun input told A)
+read-next (pos (suc k)) (pos (suc n)) begun bytes out h h′ e (input, told, A) T = (input ++ take (suc n) bytes, told ++ out, T begun input told A)
+read-next (pos (suc k)) (negsuc n) begun bytes out h h′ e (input, told, A) T = (input, told, subst (λ (x : Progress). After begun input x told) (sym (T .0)) A)
+read-next (negsuc k) next begun bytes out h h′ e S T = absurd (false≢true e)
 
-pub stands-leaves : (got : ℤ) (begun : List ℕ) (h : Held) → Stands got begun h → Leaves begun (h .area)
-stands-leaves (pos zero) begun h (input, told, N) = (input, told, inl N)
-stands-leaves (pos (suc k)) begun h (input, told, A) = (input, told, inr (A .answered))
-stands-leaves (negsuc k) begun h (input, told, A) = (input, told, inr (A .answered))
+pub read-last : (got : ℤ) (begun : List ℕ) (h : Progress) → AfterRead got begun h → Rehearsed begun (h .area)
+read-last (pos zero) begun h (input, told, N) = (input, told, inl N)
+read-last (pos (suc k)) begun h (input, told, A) = (input, told, inr (A .answered))
+read-last (negsuc k) begun h (input, told, A) = (input, told, inr (A .answered))

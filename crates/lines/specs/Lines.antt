@@ -49,42 +49,42 @@ Answered lines begun area told = (outs : List (List ℕ)) × Played lines begun 
 abbrev pub Puts : List ℕ → List ℕ → List ℕ → List ℕ → List ℕ → Type 0
 Puts line old new told told′ = (out : List ℕ) × Serves (meaning line) old new out × (told′ ≡ told ++ out)
 
--- what is held between two pieces: the area, and of the open line so many bytes at the front of `line`
-pub record Held : Type 0 where
+-- how far it has come, between two pieces: the area, and of the open line so many bytes at the front of `line`
+pub record Progress : Type 0 where
   pub line : List ℕ
   pub fill : ℕ
   pub area : List ℕ
 
-abbrev pub held : List ℕ → ℕ → List ℕ → Held
-held line fill area = record { line = line; fill = fill; area = area }
+abbrev pub progress : List ℕ → ℕ → List ℕ → Progress
+progress line fill area = record { line = line; fill = fill; area = area }
 
 -- so it stands after this input: the lines that it ended are answered, and the open line is kept, as far as there is room
-pub record After (begun input : List ℕ) (h : Held) (told : List ℕ) : Type 0 where
+pub record After (begun input : List ℕ) (h : Progress) (told : List ℕ) : Type 0 where
   pub answered : Answered (ended [] input) begun (h .area) told
   pub kept : take (h .fill) (h .line) ≡ take (length (h .line)) (rest [] input)
 
 -- a piece is fed, and `out` put out: over all that was fed before
-abbrev pub Feeds : List ℕ → Held → Held → List ℕ → Type 0
+abbrev pub Feeds : List ℕ → Progress → Progress → List ℕ → Type 0
 Feeds piece h h′ out = (begun input told : List ℕ) → After begun input h told → After begun (input ++ piece) h′ (told ++ out)
 
 -- the input ends, and `out` is put out: all of its lines are answered
-abbrev pub Closes : Held → Held → List ℕ → Type 0
+abbrev pub Closes : Progress → Progress → List ℕ → Type 0
 Closes h h′ out = (begun input told : List ℕ) → After begun input h told → Answered (linesOf input) begun (h′ .area) (told ++ out)
 
 -- what C's read answered, with the bytes that it was lent: so many of them are a piece; none is the end of the input; a read that failed
 -- brings nothing and ends no line
-abbrev pub Takes : ℤ → List ℕ → Held → Held → List ℕ → Type 0
-Takes (pos zero) bytes h h′ out = Closes h h′ out
-Takes (pos (suc k)) bytes h h′ out = Feeds (take (suc k) bytes) h h′ out
-Takes (negsuc k) bytes h h′ out = (h′ ≡ h) × (out ≡ [])
+abbrev pub TakesIn : ℤ → List ℕ → Progress → Progress → List ℕ → Type 0
+TakesIn (pos zero) bytes h h′ out = Closes h h′ out
+TakesIn (pos (suc k)) bytes h h′ out = Feeds (take (suc k) bytes) h h′ out
+TakesIn (negsuc k) bytes h h′ out = (h′ ≡ h) × (out ≡ [])
 
 -- ---- a whole input
 
 -- an input is fed in these pieces and ends; of the area begun comes another, and these bytes are put out
 pub record Rehearsal (pieces : List (List ℕ)) (begun area told : List ℕ) : Type 0 where
-  pub first : Held
-  pub final : Held
-  pub closed : Held
+  pub first : Progress
+  pub final : Progress
+  pub closed : Progress
   pub outs : List (List ℕ)
   pub out : List ℕ
   pub begins : (first .fill ≡ 0) × (first .area ≡ begun)
@@ -96,10 +96,11 @@ pub record Rehearsal (pieces : List (List ℕ)) (begun area told : List ℕ) : T
 -- whatever the pieces: so far the lines that they ended are answered, and at the end all lines of their bytes; the bytes alone decide what is put
 -- out and what is left
 pub record Whole : Type 0 where
-  pub so-far : {pieces outs : List (List ℕ)} {h h′ : Held} → h .fill ≡ 0 → Run Feeds pieces h h′ outs → After (h .area) (joined pieces) h′ (joined outs)
+  pub so-far : {pieces outs : List (List ℕ)} {h h′ : Progress} → h .fill ≡ 0 → Run Feeds pieces h h′ outs → After (h .area) (joined pieces) h′ (joined outs)
   pub answers : {pieces : List (List ℕ)} {begun area told : List ℕ} → Rehearsal pieces begun area told → Answered (linesOf (joined pieces)) begun area told
   pub alike : {ps qs : List (List ℕ)} {begun a b t u : List ℕ} → joined ps ≡ joined qs → Rehearsal ps begun a t → Rehearsal qs begun b u → (a ≡ b) × (t ≡ u)
 
--- what one input leaves of the area begun, all of its lines answered or, where it broke off, those that it ended. Which input, only C's read knows
-abbrev pub Leaves : List ℕ → List ℕ → Type 0
-Leaves begun area = (input told : List ℕ) × (Answered (linesOf input) begun area told ⊎ Answered (ended [] input) begun area told)
+-- the area begun has become what one input leaves, all of its lines answered or, where it broke off, those that it ended. Which input, only C's
+-- read knows
+abbrev pub Rehearsed : List ℕ → List ℕ → Type 0
+Rehearsed begun area = (input told : List ℕ) × (Answered (linesOf input) begun area told ⊎ Answered (ended [] input) begun area told)

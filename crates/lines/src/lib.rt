@@ -2,9 +2,9 @@
 ghost use Prim.Native.Nat.{_+_, _*_, _≤_, _<_};
 ghost use lib.ListN.{length, take};
 ghost use Rattle.print.specs.Print.{longest};
-ghost use Rattle.lines.specs.Lines.{held, Puts, Feeds, Closes, Takes};
+ghost use Rattle.lines.specs.Lines.{progress, Puts, Feeds, Closes, TakesIn};
 
-// One whole line: its answer goes behind the `full` bytes that are to be put out. The answer is how many there are then.
+// One whole line: its answer goes behind the `full` bytes that are to be put out. Tells how many they are then.
 fn answer(
     line: &[u8],
     table: &mut [u16],
@@ -41,7 +41,7 @@ fn feed(
     requires { ⌜ length (now piece) * longest ≤ length (now out) ⌝ }
     ensures { λ r. ⌜ r ≤ length (now (out .entry)) ⌝ }
     ensures { λ r. ⌜ now (fill .exit) ≤ length (now (line .entry)) ⌝ }
-    ensures { λ r. ⌜ Feeds (now (piece .entry)) (held (now (line .entry)) (now (fill .entry)) (now (area .entry))) (held (now (line .exit)) (now (fill .exit)) (now (area .exit))) (take r (now (out .exit))) ⌝ }
+    ensures { λ r. ⌜ Feeds (now (piece .entry)) (progress (now (line .entry)) (now (fill .entry)) (now (area .entry))) (progress (now (line .exit)) (now (fill .exit)) (now (area .exit))) (take r (now (out .exit))) ⌝ }
 {
     let mut at = *fill;
     let mut full: usize = 0;
@@ -76,7 +76,7 @@ fn close(
     requires { ⌜ 8192 ≤ length (now bytes) ⌝ }
     requires { ⌜ longest ≤ length (now out) ⌝ }
     ensures { λ r. ⌜ r ≤ length (now (out .entry)) ⌝ }
-    ensures { λ r. ⌜ Closes (held (now (line .entry)) fill (now (area .entry))) (held (now (line .entry)) fill (now (area .exit))) (take r (now (out .exit))) ⌝ }
+    ensures { λ r. ⌜ Closes (progress (now (line .entry)) fill (now (area .entry))) (progress (now (line .entry)) fill (now (area .exit))) (take r (now (out .exit))) ⌝ }
 {
     if fill == 0 {
         return 0;
@@ -104,7 +104,7 @@ pub fn take_in(
     requires { ⌜ length (now chunk) * longest ≤ length (now out) ⌝ }
     ensures { λ r. ⌜ r ≤ length (now (out .entry)) ⌝ }
     ensures { λ r. ⌜ now (fill .exit) ≤ length (now (line .entry)) ⌝ }
-    ensures { λ r. ⌜ Takes got (now (chunk .entry)) (held (now (line .entry)) (now (fill .entry)) (now (area .entry))) (held (now (line .exit)) (now (fill .exit)) (now (area .exit))) (take r (now (out .exit))) ⌝ }
+    ensures { λ r. ⌜ TakesIn got (now (chunk .entry)) (progress (now (line .entry)) (now (fill .entry)) (now (area .entry))) (progress (now (line .exit)) (now (fill .exit)) (now (area .exit))) (take r (now (out .exit))) ⌝ }
 {
     if got < 0 {
         return 0;

@@ -2,7 +2,7 @@
 ghost use Prim.Native.Nat.{ℕ, _*_, _≤_, _<_};
 ghost use lib.ListN.{length, take};
 ghost use Rattle.print.specs.Print.{longest};
-ghost use Rattle.lines.specs.Lines.{held, Takes, Leaves};
+ghost use Rattle.lines.specs.Lines.{progress, TakesIn, Rehearsed};
 
 // One read: what it brings is taken in, and what comes of it is written. The answer is what C's read answered.
 fn turn(
@@ -21,7 +21,7 @@ fn turn(
     requires { ⌜ longest ≤ length (now out) ⌝ }
     requires { ⌜ length (now chunk) * longest ≤ length (now out) ⌝ }
     ensures { λ r. ⌜ now (fill .exit) ≤ length (now (line .entry)) ⌝ }
-    ensures { λ r. ⌜ ((n : ℕ) × Takes r (now (chunk .exit)) (held (now (line .entry)) (now (fill .entry)) (now (area .entry))) (held (now (line .exit)) (now (fill .exit)) (now (area .exit))) (take n (now (out .exit)))) ⌝ }
+    ensures { λ r. ⌜ ((n : ℕ) × TakesIn r (now (chunk .exit)) (progress (now (line .entry)) (now (fill .entry)) (now (area .entry))) (progress (now (line .exit)) (now (fill .exit)) (now (area .exit))) (take n (now (out .exit)))) ⌝ }
 {
     let got = libc::read(0, chunk);
     let n = lines::take_in(got, chunk, line, fill, table, bytes, area, out);
@@ -43,7 +43,7 @@ fn all(
     requires { ⌜ 8192 ≤ length (now bytes) ⌝ }
     requires { ⌜ longest ≤ length (now out) ⌝ }
     requires { ⌜ length (now chunk) * longest ≤ length (now out) ⌝ }
-    ensures { λ _. ⌜ Leaves (now (area .entry)) (now (area .exit)) ⌝ }
+    ensures { λ _. ⌜ Rehearsed (now (area .entry)) (now (area .exit)) ⌝ }
 {
     let mut fill: usize = 0;
     let mut got: isize = 1;

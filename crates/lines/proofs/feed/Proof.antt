@@ -9,7 +9,7 @@ use lib.ListN.{length, getD, take, length-set}
 use lib.Seq.{length-take-le, take-all}
 use borrow.Author.Needs.{needs}
 use Rattle.print.specs.Print.{longest}
-use Rattle.lines.specs.Lines.{held, Feeds}
+use Rattle.lines.specs.Lines.{progress, Feeds}
 use Rattle.lines.proofs.Feeding.{feeds-none, feeds-on, feeds-as, feeds-byte, feeds-over, feeds-newline}
 use Rattle.lines.proofs.feed.Statement.{statement}
 use Rattle.lines.proofs.feed.Tie as tie
@@ -18,7 +18,7 @@ abbrev Inv-loop : tie.InvT-loop
 Inv-loop piece line₀ fill table₀ bytes₀ area₀ out₀ at₀ full₀ i₀ line table bytes area out at full i =
     ((at ≤ length line) × (full ≤ i * longest) × (i ≤ length piece)
     × (length line ≡ length line₀) × (length table ≡ length table₀) × (length bytes ≡ length bytes₀) × (length area ≡ length area₀) × (length out ≡ length out₀))
-    × Feeds (take i piece) (held line₀ fill area₀) (held line at area) (take full out)
+    × Feeds (take i piece) (progress line₀ fill area₀) (progress line at area) (take full out)
 
 abbrev μ-loop : tie.MeasureT-loop
 μ-loop piece line₀ fill table₀ bytes₀ area₀ out₀ at₀ full₀ i₀ line table bytes area out at full i = length piece - i
@@ -92,7 +92,7 @@ returns : tie.Need-returns Inv-loop μ-loop
 returns c =
     let a = c .before .before .before .before .before .before .before .before .before .args in
     let l = c .before .loop in
-    (omega arith, (omega arith, subst (λ (xs : List ℕ). Feeds xs (held (now (a .line)) (now (a .fill)) (now (a .area))) (held (l .line) (l .at) (l .area)) (take (l .full) (l .out))) (take-all (l .i) (now (a .piece)) (omega arith)) (l .inv .1)))
+    (omega arith, (omega arith, subst (λ (xs : List ℕ). Feeds xs (progress (now (a .line)) (now (a .fill)) (now (a .area))) (progress (l .line) (l .at) (l .area)) (take (l .full) (l .out))) (take-all (l .i) (now (a .piece)) (omega arith)) (l .inv .1)))
 
 pub feed-spec : {M : Type 1} → statement M
 feed-spec =

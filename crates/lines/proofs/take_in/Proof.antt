@@ -11,7 +11,7 @@ use lib.Signed.{ltZ}
 use lib.ListN.{length, take}
 use borrow.Author.Needs.{needs}
 use Rattle.io.specs.Counts.{clamped}
-use Rattle.lines.specs.Lines.{held}
+use Rattle.lines.specs.Lines.{progress}
 use Rattle.lines.proofs.Feeding.{takes-none, takes-end, takes-piece}
 use Rattle.lines.proofs.take_in.Statement.{statement}
 use Rattle.lines.proofs.take_in.Tie as tie
@@ -20,7 +20,7 @@ returns : tie.Need-returns
 returns c =
     let f = c .before .before .before .before .before .before .before in
     let a = f .args in
-    let h = held (now (a .line)) (now (a .fill)) (now (a .area)) in
+    let h = progress (now (a .line)) (now (a .fill)) (now (a .area)) in
     let failed = sym (ap (λ (z : ℤ). ltZ z (pos 0)) (toZ-ofZ w64 (a .got) (f .fits .got))) ∙ c .if1 .taken in
     (omega arith, (omega arith, takes-none (now (a .chunk)) h (a .got) failed))
 
@@ -47,8 +47,8 @@ returns-2 c =
     let f = c .before .before .before .before .before .before .before .before .before .before .before .before .before .before .before .before .before .before .before .before .before .before .before in
     let a = f .args in
     let w = c .before .before .before .before .before .before .before .before .close in
-    let h = held (now (a .line)) (now (a .fill)) (now (a .area)) in
-    let h′ = held (now (a .line)) (now (a .fill)) (w .last .1 .1 .1 .1 .0) in
+    let h = progress (now (a .line)) (now (a .fill)) (now (a .area)) in
+    let h′ = progress (now (a .line)) (now (a .fill)) (w .last .1 .1 .1 .1 .0) in
     let none = sym (toZ-ofZ w64 (a .got) (f .fits .got)) ∙ ap (toZ w64) (c .before .before .before .before .before .before .before .before .before .before .before .before .before .before .before .if2 .taken) in
     (w .ensures .0, (omega arith, takes-end (now (a .chunk)) (take (w .result) (w .last .1 .1 .1 .1 .1 .0)) h h′ (a .got) none (w .ensures .1)))
 
@@ -82,8 +82,8 @@ returns-3 c =
     let a = f .args in
     let w = c .before .before .before .before .before .before .before .before .before .before .feed in
     let n = c .before .before .before .before .before .before .before .before .before .before .before .before .before .before .before .before .before .before .count in
-    let h = held (now (a .line)) (now (a .fill)) (now (a .area)) in
-    let h′ = held (w .last .1 .0) (w .last .1 .1 .0) (w .last .1 .1 .1 .1 .1 .0) in
+    let h = progress (now (a .line)) (now (a .fill)) (now (a .area)) in
+    let h′ = progress (w .last .1 .0) (w .last .1 .1 .0) (w .last .1 .1 .1 .1 .1 .0) in
     let back = toZ-ofZ w64 (a .got) (f .fits .got) in
     let worked = sym (ap (λ (z : ℤ). ltZ z (pos 0)) back) ∙ c .before .before .before .before .before .before .before .before .before .before .before .before .before .before .before .before .before .before .before .before .if1 .left in
     let some : a .got ≢ pos 0 = λ e. c .before .before .before .before .before .before .before .before .before .before .before .before .before .before .before .before .before .before .before .if2 .left (ap (ofZ w64) e) in

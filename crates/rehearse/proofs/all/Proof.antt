@@ -9,8 +9,8 @@ use denote.Ref.{now}
 use lib.IntN.{ℤ}
 use lib.ListN.{length, take}
 use borrow.Author.Needs.{needs}
-use Rattle.lines.specs.Lines.{held}
-use Rattle.lines.proofs.Whole.{Stands, stands-first, stands-next, stands-leaves}
+use Rattle.lines.specs.Lines.{progress}
+use Rattle.lines.proofs.Whole.{AfterRead, read-first, read-next, read-last}
 use Rattle.rehearse.proofs.all.Statement.{statement}
 use Rattle.rehearse.proofs.all.Tie as tie
 
@@ -18,13 +18,13 @@ abbrev Inv-loop : tie.InvT-loop
 Inv-loop chunk₀ line₀ table₀ bytes₀ area₀ out₀ fill₀ got₀ turns₀ t10 chunk line table bytes area out fill got turns =
     ((fill ≤ length line)
     × (length chunk ≡ length chunk₀) × (length line ≡ length line₀) × (length table ≡ length table₀) × (length bytes ≡ length bytes₀) × (length area ≡ length area₀) × (length out ≡ length out₀))
-    × Stands (toZ w64 got) area₀ (held line fill area)
+    × AfterRead (toZ w64 got) area₀ (progress line fill area)
 
 abbrev μ-loop : tie.MeasureT-loop
 μ-loop chunk₀ line₀ table₀ bytes₀ area₀ out₀ fill₀ got₀ turns₀ t10 chunk line table bytes area out fill got turns = turns
 
 loop-holds : tie.Need-loop-holds Inv-loop μ-loop
-loop-holds c = (omega arith, stands-first (now (c .before .before .before .before .before .before .args .line)) (now (c .before .before .before .before .before .before .args .area)))
+loop-holds c = (omega arith, read-first (now (c .before .before .before .before .before .before .args .line)) (now (c .before .before .before .before .before .before .args .area)))
 
 turn-requires : tie.Need-turn-requires Inv-loop μ-loop
 turn-requires c κs = search needs
@@ -41,10 +41,10 @@ loop-again c =
     let l = c .before .before .before .before .before .before .before .before .before .before .before .before .before .before .before .before .before .before .before .before .before .before .loop in
     let t = c .before .before .before .before .before .before .before .before .before .before .before .before .turn in
     let k = t .kept in
-    let h = held (l .line) (l .fill) (l .area) in
-    let h′ = held (t .last .1 .0) (t .last .1 .1 .0) (t .last .1 .1 .1 .1 .1 .0) in (
+    let h = progress (l .line) (l .fill) (l .area) in
+    let h′ = progress (t .last .1 .0) (t .last .1 .1 .0) (t .last .1 .1 .1 .1 .1 .0) in (
       omega (arith, t .ensures .0, k),
-      subst (λ (z : ℤ). Stands z (now (a .area)) h′) (sym (toZ-ofZ w64 (t .result) (record { sfits = t .ok }))) (stands-next (toZ w64 (l .got)) (t .result) (now (a .area)) (t .last .0) (take (t .ensures .1 .0) (t .last .1 .1 .1 .1 .1 .1 .0)) h h′ (c .before .before .before .before .before .before .before .before .before .before .before .before .before .before .before .before .before .before .before .before .if1 .taken) (l .inv .1) (t .ensures .1 .1)),
+      subst (λ (z : ℤ). AfterRead z (now (a .area)) h′) (sym (toZ-ofZ w64 (t .result) (record { sfits = t .ok }))) (read-next (toZ w64 (l .got)) (t .result) (now (a .area)) (t .last .0) (take (t .ensures .1 .0) (t .last .1 .1 .1 .1 .1 .1 .0)) h h′ (c .before .before .before .before .before .before .before .before .before .before .before .before .before .before .before .before .before .before .before .before .if1 .taken) (l .inv .1) (t .ensures .1 .1)),
     )
 
 slice-aggregate-write-all : tie.Need-slice-aggregate-write-all Inv-loop μ-loop
@@ -72,7 +72,7 @@ same-length-6 : tie.Need-same-length-6 Inv-loop μ-loop
 same-length-6 c = search needs
 
 returns : tie.Need-returns Inv-loop μ-loop
-returns c = let l = c .before .before .before .before .loop in stands-leaves (toZ w64 (l .got)) (now (c .before .before .before .before .before .before .before .before .before .before .before .args .area)) (held (l .line) (l .fill) (l .area)) (l .inv .1)
+returns c = let l = c .before .before .before .before .loop in read-last (toZ w64 (l .got)) (now (c .before .before .before .before .before .before .before .before .before .before .before .args .area)) (progress (l .line) (l .fill) (l .area)) (l .inv .1)
 
 same-length-7 : tie.Need-same-length-7 Inv-loop μ-loop
 same-length-7 c = search needs
@@ -93,7 +93,7 @@ same-length-12 : tie.Need-same-length-12 Inv-loop μ-loop
 same-length-12 c = search needs
 
 returns-2 : tie.Need-returns-2 Inv-loop μ-loop
-returns-2 c = let l = c .before .before .loop in stands-leaves (toZ w64 (l .got)) (now (c .before .before .before .before .before .before .before .before .before .args .area)) (held (l .line) (l .fill) (l .area)) (l .inv .1)
+returns-2 c = let l = c .before .before .loop in read-last (toZ w64 (l .got)) (now (c .before .before .before .before .before .before .before .before .before .args .area)) (progress (l .line) (l .fill) (l .area)) (l .inv .1)
 
 pub all-spec : {M : Type 1} → statement M
 all-spec =
