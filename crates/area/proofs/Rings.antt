@@ -90,6 +90,7 @@ In q [] = ⊥
 In q (r ∷ rs) = (q ≡ r) ⊎ In q rs
 
 pub in_left : (q : Queue) (xs ys : List Queue) → In q xs → In q (xs ++ ys)
+in_left q [] ys x' = elim x' [ ]
 in_left q (x ∷ xs) ys (inl e) = inl e
 in_left q (x ∷ xs) ys (inr i) = inr (in_left q xs ys i)
 
@@ -115,6 +116,7 @@ queue_in n (condition c) v =
 
 -- who follows p in the queue where it stands
 next_at : (qs : Queue → List ℕ) (rs : List Queue) (q : Queue) (p : ℕ) → In q rs → member p (qs q) ≡ true → ((r : Queue) → member p (qs r) ≡ true → r ≡ q) → next_in qs rs p ≡ after_in (first (qs q)) (qs q) p
+next_at qs [] q p i m one = elim i [ ]
 next_at qs (r ∷ rs) q p i m one = go (member p (qs r)) refl i (λ k. next_at qs rs q p k m one)
   where
     go : (b : Bool) → member p (qs r) ≡ b → (q ≡ r) ⊎ In q rs → (In q rs → next_in qs rs p ≡ after_in (first (qs q)) (qs q) p) → next_in qs (r ∷ rs) p ≡ after_in (first (qs q)) (qs q) p

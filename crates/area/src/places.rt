@@ -10,7 +10,7 @@ use crate::{condition_at, layout, lock_at, record_at};
 use model::Shape;
 
 // The index of a word, by how much the word grows where the part grows by one, and how many values the part has.
-#[derive(Drop)]
+#[derive(Clone, Copy)]
 pub struct Place {
     pub at: usize,
     pub unit: u16,

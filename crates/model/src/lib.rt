@@ -1,7 +1,8 @@
 // What the kernel is called with and what it answers, as types; the tuple structs keep numbers of different kinds apart. Assumes nothing.
+#![tactic(auto)]
 
 // The four counts of an area.
-#[derive(Drop)]
+#[derive(Clone, Copy)]
 pub struct Shape {
     pub processes: u16,
     pub locks: u16,
@@ -10,19 +11,19 @@ pub struct Shape {
 }
 
 // A number of clock ticks.
-#[derive(Drop)]
+#[derive(Clone, Copy)]
 pub struct Ticks(pub u16);
 
 // The number of a process, from 1; 0 is none.
-#[derive(Drop)]
+#[derive(Clone, Copy)]
 pub struct Process(pub u16);
 
 // A priority, 0 to 7; 7 is the highest.
-#[derive(Drop)]
+#[derive(Clone, Copy)]
 pub struct Priority(pub u16);
 
 // The twelve calls that change an area, each with its numbers.
-#[derive(Drop)]
+#[derive(Clone, Copy)]
 pub enum Call {
     Enter {
         lock: u16,
@@ -67,7 +68,7 @@ pub enum Call {
 }
 
 // What Start and each of the twelve calls answer. Code 0 accepts; a refusal has zeros beside its code. The code stands amidst the others: four zeros side by side a compiler writes as one number, and then it takes every answer apart again.
-#[derive(Drop)]
+#[derive(Clone, Copy)]
 pub struct Answer {
     pub running: u16,
     pub retry: u16,
@@ -78,7 +79,7 @@ pub struct Answer {
 }
 
 // What a read into a lent buffer answers: its code, and how much it wrote there.
-#[derive(Drop)]
+#[derive(Clone, Copy)]
 pub struct Report {
     pub code: u16,
     pub count: u16,

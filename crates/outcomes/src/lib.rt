@@ -1,4 +1,5 @@
 // What a call comes to: dispatch, which ends every accepted one. `answers` has its answer, and `codes` the tests that calls share. Assumes nothing.
+#![tactic(auto)]
 ghost use Rattle.std.specs.Prelude.{◌≡◌};
 ghost use Rattle.model.specs.Queue.{first};
 ghost use Rattle.model.specs.Queue.Queue.{ready};
@@ -12,7 +13,7 @@ pub mod answers;
 pub mod codes;
 
 // Who runs now, and whether its failed bit was set.
-#[derive(Drop)]
+#[derive(Clone, Copy)]
 struct Dispatched {
     running: u16,
     retry: u16,

@@ -103,4 +103,4 @@ module _ {n : Shape} {old : List ℕ} {s : State model} (H : Holds n old s) (a b
         → Gives n mid new r (finish model s.fields (moves model (priorities s.fields) s.queues ((p.0, ready_or_park b) ∷ [])) 0 came 0) → Does (Requeue a b p) n old new s r
     unfolding decide
     requeue_moves {came} m e b' g =
-        accepts H (Requeue a b p) s.fields ((p.0, ready_or_park b) ∷ []) 0 came 0 (when_no 7 _ (right n a b p.0 x y z w) ∙ when_no 10 _ (ap not m)) e (sym (ahead_park _ p.0 b)) b' g
+        accepts H (Requeue a b p) s.fields ((p.0, ready_or_park b) ∷ []) 0 came 0 (when_no 7 _ (right n a b p.0 x y z w) ∙ when_no 10 _ (ap not m)) e (sym (ahead_park ((changed s.fields ((p.0, ready_or_park b) ∷ []) s).queues) p.0 b)) b' g

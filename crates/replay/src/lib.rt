@@ -1,4 +1,5 @@
 // A log of calls, made one after the other on one area. Assumes nothing.
+#![tactic(auto)]
 ghost use Rattle.std.specs.Prelude.{◌≡◌, ◌<◌, ◌*◌, length, drop};
 ghost use Rattle.replay.specs.Replay.{none2, none3, made, operation, recorded, first_of, Served, Replayed};
 
@@ -7,7 +8,7 @@ use monitor::perform;
 use wire::pack;
 
 // What four words of a log say: a call, or nothing that can be made.
-#[derive(Drop)]
+#[derive(Clone, Copy)]
 pub enum Record {
     Made(Call),
     Malformed,

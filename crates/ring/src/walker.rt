@@ -6,7 +6,7 @@ ghost use Rattle.ring.specs.Ring.{Ring};
 use links::{link_of, next_of, points};
 
 // The records, and the process at which the walker stands.
-#[derive(Drop)]
+#[derive(Clone, Copy)]
 struct Walker<'a> {
     records: &'a [u16],
     at: u16,

@@ -1,4 +1,5 @@
 // The lines of Rehearse: a line of bytes is cut at its spaces into a name and numbers, and these say the call. Assumes nothing.
+#![tactic(auto)]
 ghost use Rattle.std.specs.Prelude.{◌≡◌, ◌≤◌, ◌∷◌, [], length};
 ghost use Rattle.script.specs.Line.{later_name, name_of, started, said, meaning};
 ghost use Rattle.script.specs.Read.{Calls, Tells};
@@ -7,7 +8,7 @@ use model::{Call, Priority, Process, Shape, Ticks};
 use words::Found;
 
 // The first word of a line.
-#[derive(Drop)]
+#[derive(Clone, Copy)]
 pub enum Name {
     Start,
     Enter,
@@ -26,7 +27,7 @@ pub enum Name {
 }
 
 // What a line is: a call; Start with its shape and the count of its bytes; or neither.
-#[derive(Drop)]
+#[derive(Clone, Copy)]
 pub enum Parsed {
     Call(Call),
     Start(Shape, usize),

@@ -28,6 +28,7 @@ in_either q (x ∷ xs) ys (inr i) = go (in_either q xs ys i)
     go (inr j) = inr j
 
 pub in_all : (T : Queue → Type 0) (qs : List Queue) → All T qs → (q : Queue) → In q qs → T q
+in_all T [] h q x'' = elim x'' [ ]
 in_all T (r ∷ rs) h q (inl e) = rw e h.0
 in_all T (r ∷ rs) h q (inr i) = in_all T rs h.1 q i
 
@@ -72,10 +73,12 @@ in_kind k i (suc m) h = elim (ℕ_discrete i m) [
 
 kind_in : (T : Queue → Type 0) (k m : ℕ) → ((i : ℕ) → i < m → T (queue_at k i)) → (q : Queue) → In q (queues_of k m) → T q
 unfolding queues_of
+kind_in T k zero h q j = elim j [ ]
 kind_in T k (suc m) h q j = go (in_either q (queues_of k m) (queue_at k m ∷ []) j) (kind_in T k m (λ i l. h i (omega arith)) q)
   where
     go : In q (queues_of k m) ⊎ In q (queue_at k m ∷ []) → (In q (queues_of k m) → T q) → T q
     go (inl a) ih = ih a
+    go (inr (inr x5)) ih = elim x5 [ ]
     go (inr (inl e)) ih = rw e (h m (omega arith))
 
 hits_above : (k i m : ℕ) → m ≤ i → hits (queue_at k i) (queues_of k m) ≡ 0

@@ -169,10 +169,12 @@ visits_full ws (q ∷ qs) js small v c =
 -- two queues of a list have no more of x than the list
 module _ (ws : List ℕ) (x : ℕ) where
   pub total_one : (qs : List Queue) (q : Queue) → In q qs → count x (reading ws q) ≤ total ws x qs
+  total_one [] q x'' = elim x'' [ ]
   total_one (r ∷ rs) q (inl e) = rw e (omega arith)
   total_one (r ∷ rs) q (inr i) = let h = total_one rs q i in omega arith
 
   pub total_two : (qs : List Queue) (q p : Queue) → In q qs → In p qs → q ≢ p → count x (reading ws q) + count x (reading ws p) ≤ total ws x qs
+  total_two [] q p x4 _ n = elim x4 [ ]
   total_two (r ∷ rs) q p (inl e) (inl d) n = absurd (n (e ∙ sym d))
   total_two (r ∷ rs) q p (inl e) (inr i) n = let h = total_one rs p i in rw e (omega arith)
   total_two (r ∷ rs) q p (inr i) (inl e) n = let h = total_one rs q i in rw e (omega arith)

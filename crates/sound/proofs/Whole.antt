@@ -2,7 +2,7 @@
 use Prim.Native.Nat.{ℕ, ◌+◌, ◌*◌, ◌/◌, ◌%◌, ◌≤◌, ◌<◌}
 use native.Mathlib.Decide.{ℕ_discrete}
 use native.Mathlib.Omega.{arith}
-use mathlib.Core.Path.{◌≡◌, refl, sym, ◌∙◌}
+use mathlib.Core.Path.{◌≡◌, refl, sym, ◌∙◌, ap, subst}
 use mathlib.Core.Logic.{◌≢◌, ◌⊎◌, inl, inr, ⊎_elim}
 use mathlib.Core.Bool.{Bool, true, false, not, ◌&&◌, cond, true≢false, false≢true}
 use mathlib.Core.List.{List, [], ◌∷◌}
@@ -68,7 +68,7 @@ chain_next f x (y ∷ ys) c p m = go (ℕ_discrete x p) (chain_next f y ys c.1 p
     there (inr i) = inr (member_there (f p) y ys i)
 
     go : Dec (x ≡ p) → (member p (y ∷ ys) ≡ true → (p ≡ last_of y ys) ⊎ (member (f p) ys ≡ true)) → (p ≡ last_of y ys) ⊎ (member (f p) (y ∷ ys) ≡ true)
-    go (yes e) ih = inr (rw (← e, c.0) (member_here y ys))
+    go (yes e) ih = inr (subst (λ (v : ℕ). member v (y ∷ ys) ≡ true) (sym (ap f (sym e) ∙ c.0)) (member_here y ys))
     go (no n) ih = there (ih (rw (eqb_no x p n) at m))
 
 ring_next : (f : ℕ → ℕ) (xs : List ℕ) → Linked f (last xs) xs → (p : ℕ) → member p xs ≡ true → member (f p) xs ≡ true
@@ -76,7 +76,7 @@ ring_next f [] c p m = absurd (false≢true m)
 ring_next f (x ∷ xs) c p m = go (chain_next f x xs c.1 p m)
   where
     go : (p ≡ last_of x xs) ⊎ (member (f p) xs ≡ true) → member (f p) (x ∷ xs) ≡ true
-    go (inl e) = rw (e, c.0) (member_here x xs)
+    go (inl e) = subst (λ (v : ℕ). member v (x ∷ xs) ≡ true) (sym (ap f e ∙ c.0)) (member_here x xs)
     go (inr i) = member_there (f p) x xs i
 
 -- ---- values

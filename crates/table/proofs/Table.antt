@@ -225,6 +225,8 @@ comes_told (asked (stores now t)) xs c =
 
 all_told : (rs : List (Question × List (List ℕ))) (xs : List (List (List ℕ))) → AllCome rs xs → xs ≡ map (λ (r : Question × List (List ℕ)). told r.0) rs
 all_told [] [] c = refl
+all_told [] (x ∷ xs) c = elim c [ ]
+all_told (r ∷ rs) [] c = elim c [ ]
 all_told (r ∷ rs) (x ∷ xs) c = λ i. comes_told r.0 x c.0 i ∷ all_told rs xs c.1 i
 
 computed : map (λ (r : Question × List (List ℕ)). told r.0) rows ≡ must

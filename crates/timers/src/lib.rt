@@ -1,4 +1,5 @@
 // Reads of the timers, on an area that holds a valid state: who is due within so many ticks, and who is the nearest. Assumes nothing.
+#![tactic(auto)]
 ghost use Rattle.std.specs.Prelude.{◌≡◌, true, ◌++◌, ◌≤◌, length, drop};
 ghost use Rattle.model.specs.Queue.{inside};
 ghost use Rattle.model.specs.Field.Field.{clock as clockField};
@@ -13,7 +14,7 @@ use area::places;
 use model::{Report, Shape, Ticks};
 
 // What is answered to who is the nearest: the code, the process, its ticks left. No process where nobody is armed.
-#[derive(Drop)]
+#[derive(Clone, Copy)]
 pub struct Earliest {
     pub code: u32,
     pub process: u32,

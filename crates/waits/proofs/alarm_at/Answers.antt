@@ -1,0 +1,9 @@
+-- `waits::alarm_at` meets its contract: the clock plus the ticks, going round, with 0 for none. Assumes nothing.
+use Rattle.waits.proofs.Waiting.{alarm_none, alarm_due}
+use Rattle.waits.proofs.alarm_at.Goals as goal
+
+pub returns-then-t-eq0 : goal.returns-then-t-eq0
+returns-then-t-eq0 c = alarm_none c.args.now c.if-t-eq0.true
+
+pub returns : goal.returns
+returns c = alarm_due c.args.now c.if-t-eq0.false c.wrapping_add_u16.ensures.value
