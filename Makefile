@@ -5,8 +5,8 @@
 # make lib:            the library, target/staticlib/libkernel.a.
 # make rehearse:       the program Rehearse, target/bin/rehearse.
 # make install:        the header, the library with a file for pkg-config, and Rehearse, below PREFIX; DESTDIR, if given, goes before it.
-# make test:           every test and proof, from nothing; its last step is the gate of the proof kit.
-# make build:          proves what the tests need, side by side: the program, and all that the library stands on.
+# make test:           every test and proof; its last step is the gate of the proof kit.
+# make build:          proves every crate, JOBS side by side, over what is proved already.
 # make fuzz:           the tests with a fresh seed, which is printed, for SECONDS.
 # make bench:          the library against plain C on the same work, as ratios; the best of four places in a cache line.
 # make bench-rehearse: Rehearse against a plain C program over the library, in megabytes a second.
@@ -26,9 +26,8 @@ SCRIPT ?= examples/script.txt
 PREFIX ?= /usr/local
 VERSION = $(shell sed -n 's/^.define KERNEL_VERSION "\(.*\)"/\1/p' include/kernel.h)
 
-# A build proves level by level: four crates at a time keep two cores busy to the end of a level. The gate tries its edits in batches of as many
-# as there are cores: in larger ones they only share the caches.
-lib rehearse build: export RT_JOBS ?= 4
+# How many crates make build proves at a time. A check takes 1 to 4 GB of memory.
+JOBS ?= $(shell nproc)
 
 .PHONY: help run show lib rehearse install test build fuzz bench bench-rehearse plot cortex-m clean
 
@@ -50,10 +49,13 @@ show:
 	@target/show $(SCRIPT) $(SVG)
 
 lib:
-	rt staticlib kernel
+	cd crates/kernel_c && rt lib
+	install -D -m 644 crates/kernel_c/out/libkernel_c.a $(LIB)
 
+# What rt builds it runs too: on no input Rehearse writes nothing.
 rehearse:
-	rt check rehearse
+	cd crates/rehearse && rt run < /dev/null
+	install -D crates/rehearse/out/rehearse target/bin/rehearse
 
 target/%: examples/%.c lib include/kernel.h
 	gcc $(CFLAGS) $< $(LIB) -o $@
@@ -69,10 +71,10 @@ install: lib rehearse
 	install target/bin/rehearse $(DESTDIR)$(PREFIX)/bin
 
 build:
-	rt check rehearse runs
+	rt all check --jobs $(JOBS)
 
 test: build
-	$(MAKE) $(EXAMPLES:%=target/%) target/show
+	$(MAKE) $(EXAMPLES:%=target/%) target/show rehearse
 	for name in $(EXAMPLES); do target/$$name | diff examples/$$name.txt - || exit 1; done
 	target/show examples/script.txt target/sample.svg | diff tests/show/sample.txt -
 	diff docs/sample.svg target/sample.svg
@@ -84,7 +86,7 @@ test: build
 	gcc $(CFLAGS) -I$(INSTALLED)/include $(INSTALLED)/nine.c -L$(INSTALLED)/lib -lrungteasel -o $(INSTALLED)/nine
 	$(INSTALLED)/nine | diff examples/nine.txt -
 	$(TESTS)
-	rt ci
+	tools/gate.sh
 
 fuzz: lib rehearse
 	$(TESTS) fuzz $(SECONDS)
@@ -109,4 +111,4 @@ cortex-m: lib
 	experiments/cortex-m.sh
 
 clean:
-	rm -rf target tests/target
+	rm -rf target tests/target crates/*/out

@@ -1,5 +1,5 @@
 #!/bin/sh
-# An experiment: the library on a Cortex-M3. It takes the LLVM module that the compiler makes of the crate kernel, compiles it for this
+# An experiment: the library on a Cortex-M3. It takes the LLVM module that the compiler makes of the crate kernel_c, compiles it for this
 # processor, says how large it is, and plays the examples on an emulated board.
 #
 # Nothing of it is proved. The compiler knows one target, x86-64, with pointers and lengths of 64 bits, and what is proved is proved for
@@ -7,7 +7,7 @@
 # done because the module counts in bytes and takes no size of a pointer for granted: a slice is a pointer at byte 0 and a length at byte
 # 8. Nothing but the examples shows that the meaning is kept.
 #
-# Needs the proof kit and a checked repository (make lib); for the run, Debian's gcc-arm-none-eabi, libnewlib-arm-none-eabi and
+# Needs the proof kit and a built library (make lib); for the run, Debian's gcc-arm-none-eabi, libnewlib-arm-none-eabi and
 # qemu-system-arm.
 set -eu
 cd "$(dirname "$0")/.."
@@ -15,25 +15,27 @@ work=$PWD/target/cortex-m
 rm -rf "$work"
 mkdir -p "$work"
 
-kit=$(dirname "$(dirname "$(rt doc)")")
-own=$kit/on/$(uname -m)
-clang=$own/toolchain/bin/clang
+kit=$(dirname "$(rt doc)")
+clang=$kit/toolchain/bin/clang
 for_arm() { "$clang" --target=thumbv7m-none-eabi -mcpu=cortex-m3 -Wno-override-module "$@"; }
 if ! "$clang" --print-targets | grep -q ' thumb '; then
     echo "the kit's clang cannot compile for ARM"
     exit 1
 fi
 
-# the module: a build whose clang first puts a copy of it aside
-cp -rs "$own/toolchain" "$work/tools"
-rm "$work/tools/bin/clang"
-printf '#!/bin/sh\n! [ -f module.bc ] || cp module.bc "%s"\nexec "%s" "$@"\n' "$work/kernel.bc" "$clang" > "$work/tools/bin/clang"
-chmod +x "$work/tools/bin/clang"
+# the module: a build whose clang first puts a copy of it aside. Its tools are links, which the gate refuses in the repository
+tools=$(mktemp -d)
+trap 'rm -rf "$tools"' EXIT
+cp -rs "$kit/toolchain/." "$tools"
+rm "$tools/bin/clang"
+printf '#!/bin/sh\n! [ -f module.bc ] || cp module.bc "%s"\nexec "%s" "$@"\n' "$work/kernel.bc" "$clang" > "$tools/bin/clang"
+chmod +x "$tools/bin/clang"
 # shellcheck disable=SC2046
-"$own/bin/rattle" build --crate-name kernel crates/kernel/src/lib.rt --extern "std=$own/rlib/std.rlib" \
-    $(sed -n 's/^kernel://p' crates.txt | sed 's,[a-z_]\+,--extern &=target/rlib/&.rlib,g') \
-    -L dependency=target/rlib -L "dependency=$own/rlib" --antt-project "$kit/logic/antt-project.json" \
-    --logic-built "$own/logic-built" --toolchain "$work/tools" --crate-type staticlib -o "$work/x86-64.a" > "$work/build.log" 2>&1
+(cd crates/kernel_c && "$kit/bin/rattle" build --crate-name kernel_c src/lib.rt --extern "std=$kit/rlibs/std.rlib" \
+    $(sed -n 's/^kernel_c staticlib://p' ../../crates.txt | sed 's,[a-z_]\+,--extern &=../&/out/rlib/&.rlib,g') \
+    $(printf -- '-L dependency=%s ' ../*/out/rlib) -L "dependency=$kit/rlibs" --antt-project "$kit/rattle/logic/antt-project.json" \
+    --logic-built "$kit/logic_built" --incremental out/incremental --toolchain "$tools" --backend llvm --crate-type staticlib \
+    -o "$work/x86-64.a") > "$work/build.log" 2>&1
 
 # the module as text, with ARM's layout for that of x86-64, and 32-bit lengths at the C functions
 "$clang" --target=x86_64-unknown-linux-gnu -S -emit-llvm -x ir "$work/kernel.bc" -o "$work/x86-64.ll"

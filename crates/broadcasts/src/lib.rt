@@ -1,5 +1,6 @@
 // Many wake at once, on an area that holds a valid state: Broadcast here, Tick in clock. Assumes nothing.
 #![tactic(auto)]
+
 ghost use Rattle.std.specs.Prelude.{◌≡◌, ℕ, true, length};
 ghost use Rattle.model.specs.declared.Call.TheVariants.{Broadcast};
 ghost use Rattle.model.specs.Queue.{Queue, inside};

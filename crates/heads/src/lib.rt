@@ -1,5 +1,6 @@
 // The words before the records: whether the counts, the running process and the words of a queue are in order. Assumes nothing.
 #![tactic(auto)]
+
 ghost use Rattle.std.specs.Prelude.{◌≡◌, ◌+◌, ◌*◌, ◌≤◌, ◌<◌, length};
 ghost use Rattle.heads.specs.Heads.{is_vacant, heading, head_at, holder_in};
 ghost use Rattle.heads.specs.First.{Decides, Counted, Led, Runs};

@@ -1,5 +1,6 @@
 // Input in pieces, as C's read brings it: cut into lines, each line served, the answers gathered for one write. Assumes nothing.
 #![tactic(auto)]
+
 ghost use Rattle.std.specs.Prelude.{◌+◌, ◌*◌, ◌≤◌, ◌<◌, length, take};
 ghost use Rattle.print.specs.Print.{longest};
 ghost use Rattle.lines.specs.Lines.{progress, Puts, Feeds, Closes, TakesIn};

@@ -1,5 +1,6 @@
 // The words that a process's number stands in: read and write a link, which has the priority of a process, its next in its ring, and failed. And whether a process's timer rings. Assumes nothing.
 #![tactic(auto)]
+
 ghost use Rattle.std.specs.Prelude.{◌≡◌, ◌+◌, ◌*◌, ◌/◌, ◌%◌, ◌≤◌, ◌<◌, eqb, set};
 ghost use Rattle.links.specs.Link.{Stands, slot, link, next, priority, rings, relink, point, wedge};
 

@@ -1,5 +1,6 @@
 // Monitor locks, on an area that holds a valid state: Enter and Exit here, Reenter in again. Assumes nothing.
 #![tactic(auto)]
+
 ghost use Rattle.std.specs.Prelude.{◌≡◌, true, [], ◌∷◌, length};
 ghost use Rattle.model.specs.declared.Call.TheVariants.{Enter, Exit};
 ghost use Rattle.model.specs.Queue.{Queue, inside, member, ahead_of, first_only};

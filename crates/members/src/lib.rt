@@ -1,5 +1,6 @@
 // The members of one ring: the ring is walked from its first to its tail, and each process marked as it is met. Assumes nothing.
 #![tactic(auto)]
+
 ghost use Rattle.std.specs.Prelude.{◌≡◌, not, List, ℕ, ◌*◌, ◌/◌, ◌≤◌, ◌<◌, leb, length};
 ghost use Rattle.members.specs.Marks.{met_in, marked};
 ghost use Rattle.members.specs.Walk.{is_eligible, is_asleep, is_idle, is_tidy, fitting, ringed, Met, Told};

@@ -1,5 +1,6 @@
 // The kernel's calls on any words whatever: an unsound area is refused, and a sound one is served. Assumes nothing.
 #![tactic(auto)]
+
 ghost use Rattle.std.specs.Prelude.{◌≡◌};
 ghost use Rattle.model.specs.declared.Call.TheVariants.{Enter, Exit, Wait, Notify, Broadcast, Naked, Requeue, SetPriority, Tick, Abort, SetAbortable, Reenter};
 ghost use Rattle.model.specs.Machine.{refusal};

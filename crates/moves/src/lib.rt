@@ -1,5 +1,6 @@
 // The queues of an area, as rings in its records: reads of one, and the move of a process from one to another. Assumes nothing.
 #![tactic(auto)]
+
 ghost use Rattle.std.specs.Prelude.{◌≡◌, true, cond, ◌++◌, ◌<◌, ◌≤◌, length, drop};
 ghost use Rattle.model.specs.declared.Shape.{Shape};
 ghost use Rattle.model.specs.Queue.{Queue, exists, queue_by, is_queue, member, ahead_of, remove, insert, first};

@@ -1,5 +1,6 @@
 // What a call comes to: dispatch, which ends every accepted one. `answers` has its answer, and `codes` the tests that calls share. Assumes nothing.
 #![tactic(auto)]
+
 ghost use Rattle.std.specs.Prelude.{◌≡◌};
 ghost use Rattle.model.specs.Queue.{first};
 ghost use Rattle.model.specs.Queue.Queue.{ready};

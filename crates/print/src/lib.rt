@@ -1,5 +1,6 @@
 // The line of an answer: its six fields in decimal, a space between, a newline after. Assumes nothing.
 #![tactic(auto)]
+
 ghost use Rattle.std.specs.Prelude.{◌≡◌, ◌+◌, ◌≤◌, ◌++◌, length, take};
 ghost use Rattle.print.specs.Print.{digits, width, field, printed, longest, Put};
 

@@ -1,5 +1,6 @@
 // Places in queues, on an area that holds a valid state: Requeue here, SetPriority in ranks, List in listing. Assumes nothing.
 #![tactic(auto)]
+
 ghost use Rattle.std.specs.Prelude.{◌≡◌, ◌≢◌, true, false, List, [], ◌∷◌, ℕ};
 ghost use Rattle.model.specs.declared.Call.TheVariants.{Requeue};
 ghost use Rattle.model.specs.Queue.{Queue, member};

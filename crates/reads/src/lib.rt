@@ -1,5 +1,6 @@
 // The reads on any words whatever: an unsound area is refused, and of a sound one its state is told. Assumes nothing.
 #![tactic(auto)]
+
 ghost use Rattle.std.specs.Prelude.{◌≡◌};
 ghost use Rattle.reads.specs.Reads.{ListsOn, TellsOn, SheetsOn, NearestOn};
 

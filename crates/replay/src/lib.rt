@@ -1,5 +1,6 @@
 // A log of calls, made one after the other on one area. Assumes nothing.
 #![tactic(auto)]
+
 ghost use Rattle.std.specs.Prelude.{◌≡◌, ◌<◌, ◌*◌, length, drop};
 ghost use Rattle.replay.specs.Replay.{none2, none3, made, operation, recorded, first_of, Served, Replayed};
 

@@ -1,5 +1,6 @@
 // A row of the yard sheet: 28 columns and a newline, on a lent page of bytes. Assumes nothing.
 #![tactic(auto)]
+
 ghost use Rattle.std.specs.Prelude.{◌≡◌, List, [], ◌∷◌, ◌++◌, ℕ, ◌+◌, ◌≤◌, length, take, drop};
 ghost use Rattle.rows.specs.Printed.{spaces, aligned, name, label, printed, Written};
 

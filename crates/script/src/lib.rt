@@ -1,5 +1,6 @@
 // The lines of Rehearse: a line of bytes is cut at its spaces into a name and numbers, and these say the call. Assumes nothing.
 #![tactic(auto)]
+
 ghost use Rattle.std.specs.Prelude.{◌≡◌, ◌≤◌, ◌∷◌, [], length};
 ghost use Rattle.script.specs.Line.{later_name, name_of, started, said, meaning};
 ghost use Rattle.script.specs.Read.{Calls, Tells};

@@ -1,5 +1,6 @@
 // One line of Rehearse: its call is performed on the area, and its answer's line written. Assumes nothing.
 #![tactic(auto)]
+
 ghost use Rattle.std.specs.Prelude.{◌≤◌, length, take};
 ghost use Rattle.script.specs.Line.{meaning};
 ghost use Rattle.print.specs.Print.{longest};

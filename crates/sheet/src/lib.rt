@@ -1,5 +1,6 @@
 // The yard sheet, on an area that holds a state: a row for each queue, on a lent page of bytes. Assumes nothing.
 #![tactic(auto)]
+
 ghost use Rattle.std.specs.Prelude.{◌≡◌, true, ◌+◌, ◌*◌, ◌≤◌, length};
 ghost use Rattle.model.specs.Queue.{queue_by, is_queue};
 ghost use Rattle.model.specs.Queue.Queue.{park, lock, condition};

@@ -1,5 +1,6 @@
 // Whether an area is sound: one pass over the words of the queues, each ring walked as its word is met. Assumes nothing.
 #![tactic(auto)]
+
 ghost use Rattle.std.specs.Prelude.{◌≡◌, true, List, ℕ, ◌+◌, ◌*◌, ◌≤◌, ◌<◌, length};
 ghost use Rattle.std.proofs.Math.Option.{some};
 ghost use Rattle.area.specs.Sound.{Sound};

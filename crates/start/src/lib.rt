@@ -1,5 +1,6 @@
 // Start: the area is written anew, and every process comes into ready, linked there by ring. Assumes nothing.
 #![tactic(auto)]
+
 ghost use Rattle.std.specs.Prelude.{◌≡◌, true, [], ℕ, ◌<◌, ◌≤◌, length, get_or, drop};
 ghost use Rattle.model.specs.declared.Shape.{Shape};
 ghost use Rattle.model.specs.Rules.{counted, any_above, start_code};

@@ -1,5 +1,6 @@
 // Reads of the timers, on an area that holds a valid state: who is due within so many ticks, and who is the nearest. Assumes nothing.
 #![tactic(auto)]
+
 ghost use Rattle.std.specs.Prelude.{◌≡◌, true, ◌++◌, ◌≤◌, length, drop};
 ghost use Rattle.model.specs.Queue.{inside};
 ghost use Rattle.model.specs.Field.Field.{clock as clockField};

@@ -1,5 +1,6 @@
 // Waiting on a condition, on an area that holds a valid state: Wait. Assumes nothing.
 #![tactic(auto)]
+
 ghost use Rattle.std.specs.Prelude.{◌≡◌, true, [], ◌∷◌, length};
 ghost use Rattle.model.specs.declared.Call.TheVariants.{Wait};
 ghost use Rattle.model.specs.Queue.{Queue, inside, member, ahead_of};

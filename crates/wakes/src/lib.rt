@@ -1,5 +1,6 @@
 // One process wakes from a condition, on an area that holds a valid state: Notify and Naked here, Abort and SetAbortable in aborts. Assumes nothing.
 #![tactic(auto)]
+
 ghost use Rattle.std.specs.Prelude.{◌≡◌, true, [], ◌∷◌, length};
 ghost use Rattle.model.specs.declared.Call.TheVariants.{Notify, Naked};
 ghost use Rattle.model.specs.Queue.{Queue, inside, member, first_only};

@@ -1,5 +1,6 @@
 // Answers as numbers, in which they cross to C and stand in a log: a field in so many bits, the code lowest. Assumes nothing.
 #![tactic(auto)]
+
 ghost use Rattle.std.specs.Prelude.{◌≡◌, ◌+◌, ◌*◌, ◌%◌, ◌^◌, ◌≤◌, ◌<◌};
 ghost use Rattle.wire.specs.Wire.{packed, report_fields, nearest_fields, number_of};
 

@@ -1,5 +1,6 @@
 // The words and numbers of a line of bytes: where a word ends, whether two are the same, what number one is. Assumes nothing.
 #![tactic(auto)]
+
 ghost use Rattle.std.specs.Prelude.{◌≡◌, ◌+◌, ◌*◌, ◌≤◌, length, drop};
 ghost use Rattle.words.specs.Words.{number, same};
 ghost use Rattle.words.specs.Read.{clipped, word, after, Reads, Bytes};

@@ -16,9 +16,9 @@ pub returns-then-tail-eq0 : goal.returns-then-tail-eq0
 returns-then-tail-eq0 c =
     let tail_is : c.next_field-tail.result ≡ get_or c.args.area.now 5 0 / 8 = c.next_field-tail.ensures ∙ led_tail c.args.area.now c.args.records.now c.requires.1 in
     record {
-  nobody = λ e. c.if-w-ne0.false;
-  somebody = λ e. absurd (e (sym tail_is ∙ c.if-tail-eq0.true));
-}
+      nobody = λ e. c.if-w-ne0.false;
+      somebody = λ e. absurd (e (sym tail_is ∙ c.if-tail-eq0.true));
+    }
 
 pub next_of-first-requires : goal.next_of-first-requires
 next_of-first-requires c =

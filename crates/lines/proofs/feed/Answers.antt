@@ -25,17 +25,17 @@ loop-i-preserved c =
     let on = feeds_on p l.i c.loop-i-test.true in
     elim c.if-b-eq10.branch [
       | then-b-eq10 w ↦ (
-          omega (arith, w.answer-full.ensures.upper_bound),
-          on (feeds_as w.line-is w.at-is w.area-is w.full-is w.out-is (feeds_newline l.invariant.1 (get_or p l.i 0) _ _ w.if-b-eq10.true (omega arith) w.answer-full.ensures.puts)),
-        )
+        omega (arith, w.answer-full.ensures.upper_bound),
+        on (feeds_as w.line-is w.at-is w.area-is w.full-is w.out-is (feeds_newline l.invariant.1 (get_or p l.i 0) _ _ w.if-b-eq10.true (omega arith) w.answer-full.ensures.puts)),
+      )
       | else-b-eq10+then-at-line w ↦ (
-          omega (arith, simp length-set at (ap length w.line-is)),
-          on (feeds_as w.line-is w.at-is w.area-is w.full-is w.out-is (feeds_byte l.invariant.1 (get_or p l.i 0) w.if-b-eq10.false (omega arith))),
-        )
+        omega (arith, simp length-set at (ap length w.line-is)),
+        on (feeds_as w.line-is w.at-is w.area-is w.full-is w.out-is (feeds_byte l.invariant.1 (get_or p l.i 0) w.if-b-eq10.false (omega arith))),
+      )
       | else-b-eq10+else-at-line w ↦ (
-          omega arith,
-          on (feeds_as w.line-is w.at-is w.area-is w.full-is w.out-is (feeds_over l.invariant.1 (get_or p l.i 0) w.if-b-eq10.false (omega arith) (omega arith))),
-        )
+        omega arith,
+        on (feeds_as w.line-is w.at-is w.area-is w.full-is w.out-is (feeds_over l.invariant.1 (get_or p l.i 0) w.if-b-eq10.false (omega arith) (omega arith))),
+      )
     ]
 
 pub returns : goal.returns

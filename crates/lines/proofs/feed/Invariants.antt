@@ -7,7 +7,7 @@ use Rattle.lines.specs.Lines.{progress, Feeds}
 use Rattle.lines.proofs.feed.Given as goal
 
 abbrev pub invariant-loop-i : goal.invariant-loop-i
-invariant-loop-i l =     ((l.at ≤ length l.line) × (l.full ≤ l.i * longest) × (l.i ≤ length l.piece)
+invariant-loop-i l = ((l.at ≤ length l.line) × (l.full ≤ l.i * longest) × (l.i ≤ length l.piece)
     × (length l.line ≡ length l.initial.line) × (length l.table ≡ length l.initial.table) × (length l.bytes ≡ length l.initial.bytes) × (length l.area ≡ length l.initial.area) × (length l.out ≡ length l.initial.out))
     × Feeds (take l.i l.piece) (progress l.initial.line l.fill l.initial.area) (progress l.line l.at l.area) (take l.full l.out)
 

@@ -92,8 +92,7 @@ returns-then-p-tail c =
 
 pub loop-found-preserved : goal.loop-found-preserved
 unfolding next priority
-loop-found-preserved c =
-    (
+loop-found-preserved c = (
   omega arith,
   λ js T.
       going_on _ _ _ _ _ _ _ _ _ _ (c.loop-found.invariant.1 js T) _ c.eligible.ensures

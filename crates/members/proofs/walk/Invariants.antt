@@ -7,7 +7,7 @@ use Rattle.members.proofs.Walks.{Going}
 use Rattle.members.proofs.walk.Given as goal
 
 abbrev pub invariant-loop-found : goal.invariant-loop-found
-invariant-loop-found l =     (l.p < 1024) × ((js : List ℕ) → Met l.processes l.initial.marks js l.count → Going l.records l.processes l.kind l.holder l.tail l.marks l.p (l.before / 8192) l.found (ringed l.records l.processes l.kind l.holder l.tail js))
+invariant-loop-found l = (l.p < 1024) × ((js : List ℕ) → Met l.processes l.initial.marks js l.count → Going l.records l.processes l.kind l.holder l.tail l.marks l.p (l.before / 8192) l.found (ringed l.records l.processes l.kind l.holder l.tail js))
 
 abbrev pub decreases-loop-found : goal.decreases-loop-found
 decreases-loop-found l = l.processes - l.found

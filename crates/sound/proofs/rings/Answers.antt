@@ -38,8 +38,7 @@ pub loop-i-smaller-else-v-ne0 : goal.loop-i-smaller-else-v-ne0
 loop-i-smaller-else-v-ne0 c = omega arith
 
 pub loop-i-preserved-else-v-ne0 : goal.loop-i-preserved-else-v-ne0
-loop-i-preserved-else-v-ne0 c =
-    (
+loop-i-preserved-else-v-ne0 c = (
   omega arith,
   λ js is e T.
       passed_empty _ _ _ _ _ _ _ _ c.head_at-at.ensures refl c.holder_word-v.ensures _ c.loop-i-test.true _ _ js (c.loop-i.invariant.1 js is e T) (sym c.vacant.ensures ∙ c.if-vacant.true) c.if-v-ne0.false,
@@ -75,12 +74,11 @@ pub loop-i-preserved : goal.loop-i-preserved
 loop-i-preserved c =
     let tested : let a = c.args in c.in_order.result ≡ heading a.processes a.kind (get_or a.heads.now c.head_at-at.result 0) c.holder_word-v.result = let few = c.requires.0 in
     let most : bit_and c.args.processes 1023 ≡ c.args.processes = and_mask c.args.processes 10 ∙ omega (arith, few) in
-    rw most at c.in_order.ensures in
-    (
-  omega arith,
-  λ js is e T.
-      passed_on _ _ _ _ _ _ _ _ c.head_at-at.ensures refl c.holder_word-v.ensures _ c.loop-i-test.true _ _ js (c.loop-i.invariant.1 js is e T) _ tested c.if-not-in_order.false-raw c.requires.0 _ _ c.next_field.ensures c.next_field-else-vacant.ensures _ _ c.walk-found.ensures c.if-found-eq-BROKEN.false,
-)
+    rw most at c.in_order.ensures in (
+      omega arith,
+      λ js is e T.
+          passed_on _ _ _ _ _ _ _ _ c.head_at-at.ensures refl c.holder_word-v.ensures _ c.loop-i-test.true _ _ js (c.loop-i.invariant.1 js is e T) _ tested c.if-not-in_order.false-raw c.requires.0 _ _ c.next_field.ensures c.next_field-else-vacant.ensures _ _ c.walk-found.ensures c.if-found-eq-BROKEN.false,
+    )
 
 pub returns : goal.returns
 returns c = λ js is e T. passed_all _ _ _ _ _ _ _ _ js (c.loop-i.invariant.1 js is e T) c.loop-i.invariant.0 c.loop-i-test.false

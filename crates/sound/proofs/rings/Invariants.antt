@@ -10,7 +10,7 @@ use Rattle.sound.proofs.Queues.{Passed}
 use Rattle.sound.proofs.rings.Given as goal
 
 abbrev pub invariant-loop-i : goal.invariant-loop-i
-invariant-loop-i l =     (l.i ≤ l.number) × ((js is : List ℕ) → passed l.heads l.records l.processes l.kind l.from js ≡ some is → Met l.processes l.initial.marks is l.count → Passed l.heads l.records l.processes l.kind l.i l.marks l.found js)
+invariant-loop-i l = (l.i ≤ l.number) × ((js is : List ℕ) → passed l.heads l.records l.processes l.kind l.from js ≡ some is → Met l.processes l.initial.marks is l.count → Passed l.heads l.records l.processes l.kind l.i l.marks l.found js)
 
 abbrev pub decreases-loop-i : goal.decreases-loop-i
 decreases-loop-i l = l.number - l.i
