@@ -1,10 +1,17 @@
 // Rehearse: calls from standard input, one a line, performed on an area of 8,192 words, each answer a line. Assumes nothing.
+#![tactic(auto)]
+
 ghost use Rattle.std.specs.Prelude.{ℕ, ◌*◌, ◌≤◌, ◌<◌, length, take};
 ghost use Rattle.print.specs.Print.{longest};
 ghost use Rattle.lines.specs.Lines.{progress, TakesIn, Rehearsed};
 
-// One read: what it brings is taken in, and what comes of it is written. The answer is what C's read answered.
+use std::io::{Read, Stderr, Stdin, Stdout, Write};
+
+// One read: what it brings is taken in, and what comes of it is written; a write that fails is let go. The answer is as C's read gives it: how many
+// bytes came, 0 at the end of the input, below 0 where the read failed.
 fn turn(
+    stdin: &mut Stdin,
+    stdout: &mut Stdout,
     chunk: &mut [u8],
     line: &mut [u8],
     fill: &mut usize,
@@ -22,14 +29,20 @@ fn turn(
     ensures fill_in_bounds_2 { fill.new ≤ length line.old }
     ensures by_index { (n : ℕ) × TakesIn result chunk.new (progress line.old fill.old area.old) (progress line.new fill.new area.new) (take n out.new) }
 {
-    let got = libc::read(0, chunk);
+    let got = match stdin.read(chunk) {
+        Ok(n) => n as isize,
+        Err(_) => -1,
+    };
     let n = lines::take_in(got, chunk, line, fill, table, bytes, area, out);
-    io::write_all(1, &out[..n]);
+    let _ = stdout.write_all(&out[..n]);
     got
 }
 
 // Read after read, to the end of the input or to a read that fails, which is told.
 fn all(
+    stdin: &mut Stdin,
+    stdout: &mut Stdout,
+    stderr: &mut Stderr,
     chunk: &mut [u8],
     line: &mut [u8],
     table: &mut [u16],
@@ -48,11 +61,13 @@ fn all(
     let mut got: isize = 1;
     let mut turns = u64::MAX;
     while turns > 0 && got > 0 {
-        got = turn(chunk, line, &mut fill, table, bytes, area, out);
+        got = turn(
+            stdin, stdout, chunk, line, &mut fill, table, bytes, area, out,
+        );
         turns -= 1;
     }
     if got < 0 {
-        io::write_all(2, b"rehearse: standard input cannot be read\n");
+        let _ = stderr.write_all(b"rehearse: standard input cannot be read\n");
     }
 }
 
@@ -65,7 +80,7 @@ const ANSWERS: usize = PIECE * print::LONGEST;
 // How many bytes of a line are kept: one more than a line that means something has at most.
 const ROOM: usize = 8193;
 
-fn main() {
+fn main(rt: HostRuntime) {
     let mut chunk = [0u8; PIECE];
     let mut line = [0u8; ROOM];
     let mut table = [0u16; 8192];
@@ -73,6 +88,14 @@ fn main() {
     let mut area = [0u16; 8192];
     let mut out = [0u8; ANSWERS];
     all(
-        &mut chunk, &mut line, &mut table, &mut bytes, &mut area, &mut out,
+        &mut rt.stdin(),
+        &mut rt.stdout(),
+        &mut rt.stderr(),
+        &mut chunk,
+        &mut line,
+        &mut table,
+        &mut bytes,
+        &mut area,
+        &mut out,
     );
 }
