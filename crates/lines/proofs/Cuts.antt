@@ -13,7 +13,6 @@ use lib.Seq.{length-take-le, take_all, take-append-le, take-suc-set}
 use Rattle.model.proofs.Tests.{eqb_yes, eqb_no, leb_no}
 use Rattle.script.specs.Line.{meaning}
 use Rattle.lines.specs.Lines.{ended, rest, last, joined}
-use Rattle.lines.specs.Examples
 
 -- ---- more bytes
 

@@ -10,7 +10,6 @@ use mathlib.Core.List.{List, [], ◌∷◌, ◌++◌, append_assoc, append-nil}
 use lib.IntN.{ℤ, pos, negsuc}
 use lib.Signed.{lt_z}
 use lib.ListN.{length, take}
-use Rattle.model.specs.declared.Answer.{Answer}
 use Rattle.model.specs.Run.{Run}
 use Rattle.model.specs.Run.Run.{none, then}
 use Rattle.model.proofs.Tests.{settle}

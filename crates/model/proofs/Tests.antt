@@ -9,7 +9,6 @@ use mathlib.Core.Bool.{Bool, true, false, not, ◌&&◌, ◌||◌, true≢false,
 use lib.Dec.{eqb, leb, ltb, T, eqb→eq, eqb_refl, leb→le, le→leb, nleb→lt}
 use Rattle.model.specs.Queue.{Queue, Queue-discrete, decided, same, bit, inside, outside}
 use Rattle.model.specs.Field.{Field, Fields, Field-discrete, put}
-use Rattle.model.specs.Examples
 
 -- ---- a test that holds with P or fails with Q
 

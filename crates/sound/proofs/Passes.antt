@@ -20,7 +20,7 @@ use Rattle.model.proofs.Places.{stands_at, waiting_is}
 use Rattle.links.specs.Link as links
 use Rattle.ring.specs.Ring.{last_of, Linked}
 use Rattle.area.specs.Layout.{at}
-use Rattle.area.specs.Layout.Part.{kept, tail, next, waiting}
+use Rattle.area.specs.Layout.Part.{kept, tail, next}
 use Rattle.area.specs.Layout.Slot.{Parks, Running, Tail, Holder, Link, Flags, Timer}
 use Rattle.area.specs.State.{last}
 use Rattle.area.specs.Reading.{shape_of, parts_of, read_from, state_of}

@@ -1,5 +1,4 @@
 -- `area::set_awake` meets its contract: the timer is written, and then the bits of the flags. Assumes nothing.
-use Prim.Native.Nat.{◌-◌}
 use native.Mathlib.Omega.{arith}
 use mathlib.Core.Path.{refl}
 use Rattle.model.specs.Field.Field.{armed}

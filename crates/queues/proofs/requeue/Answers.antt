@@ -1,7 +1,7 @@
 -- `queues::requeue` meets its contract: the process moves from one of ready and the parks to another, by the rule of Requeue. Assumes nothing.
 use mathlib.Core.Path.{sym, ◌∙◌}
 use mathlib.Core.Logic.{inl, inr}
-use Rattle.model.proofs.Tests.{not_true, not_false}
+use Rattle.model.proofs.Tests.{not_true}
 use Rattle.queues.proofs.Requeues.{source, destination, process, between, not_ready, requeue_none, requeue_absent, requeue_moves}
 use Rattle.queues.proofs.requeue.Goals as goal
 

@@ -1,4 +1,3 @@
-use Prim.Native.Nat.{◌-◌}
 use native.Mathlib.Omega.{arith}
 use mathlib.Core.Path.{refl, ◌∙◌}
 use Rattle.replay.proofs.Replays.{doing_start, doing_long, doing_next, doing_stop, doing_full}

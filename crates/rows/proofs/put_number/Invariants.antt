@@ -1,6 +1,6 @@
 -- `rows::put_number` meets its contract. The loop's invariant: the digits behind i stand on the page, and what is left of the number is to come.
 -- The measure is the columns before i. Assumes nothing.
-use Prim.Native.Nat.{◌-◌, ◌≤◌}
+use Prim.Native.Nat.{◌≤◌}
 use Rattle.rows.proofs.Numbers.{Partly}
 use Rattle.rows.proofs.put_number.Given as goal
 

@@ -1,4 +1,3 @@
-use Prim.Native.Nat.{◌-◌}
 use native.Mathlib.Omega.{arith}
 use Rattle.start.proofs.Started.{clear_start, clear_on}
 use Rattle.start.proofs.clear.Goals as goal

@@ -1,5 +1,5 @@
 -- The numbers of the words passed stand in the table, and those of the words that are left follow them; each takes a byte at least, and the measure is what is left of the line. Assumes nothing.
-use Prim.Native.Nat.{◌+◌, ◌-◌, ◌≤◌}
+use Prim.Native.Nat.{◌-◌, ◌≤◌}
 use mathlib.Core.Path.{◌≡◌}
 use mathlib.Core.List.{◌++◌}
 use lib.ListN.{length, take, drop}

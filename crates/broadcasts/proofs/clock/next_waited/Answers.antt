@@ -1,4 +1,4 @@
-use Rattle.std.proofs.Common.{◌-◌, arith, ltb-true}
+use Rattle.std.proofs.Common.{arith, ltb-true}
 use Rattle.broadcasts.proofs.Ticking.{low_next}
 use Rattle.broadcasts.proofs.clock.next_waited.Goals as goal
 

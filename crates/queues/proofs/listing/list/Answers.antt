@@ -1,6 +1,5 @@
 -- `queues::listing::list` meets its contract: the place of the queue, room for it in the buffer, and the copy. There is room where the queue was counted against the buffer, and where the buffer has a word for every process: a queue holds each at most once. Assumes nothing.
 use Prim.Native.Nat.{◌≤◌}
-use mathlib.Core.Logic.{⊎_elim}
 use native.Mathlib.Omega.{arith}
 use lib.ListN.{length}
 use Rattle.model.specs.Queue.{Queue, queue_by}
