@@ -64,9 +64,9 @@ target/show: lib $(wildcard tools/*.c tools/*.h) include/kernel.h
 	gcc $(CFLAGS) tools/*.c $(LIB) -o $@
 
 install: lib rehearse
-	install -d $(addprefix $(DESTDIR)$(PREFIX)/,include/rungteasel lib/pkgconfig bin)
-	install -m 644 include/kernel.h $(DESTDIR)$(PREFIX)/include/rungteasel
-	install -m 644 $(LIB) $(DESTDIR)$(PREFIX)/lib/librungteasel.a
+	install -d $(addprefix $(DESTDIR)$(PREFIX)/,include lib/pkgconfig bin)
+	install -m 644 include/kernel.h $(DESTDIR)$(PREFIX)/include
+	install -m 644 $(LIB) $(DESTDIR)$(PREFIX)/lib
 	sed 's,@PREFIX@,$(PREFIX),; s,@VERSION@,$(VERSION),' rungteasel.pc.in > $(DESTDIR)$(PREFIX)/lib/pkgconfig/rungteasel.pc
 	install target/bin/rehearse $(DESTDIR)$(PREFIX)/bin
 
@@ -82,8 +82,8 @@ test: build
 	for name in $(SHOWN); do diff tests/show/$$name.svg target/$$name.svg || exit 1; done
 	$(MAKE) --silent run | diff tests/show/run.txt -
 	$(MAKE) install DESTDIR=$(INSTALLED) PREFIX=
-	sed 's,"../include/kernel.h",<rungteasel/kernel.h>,' examples/nine.c > $(INSTALLED)/nine.c
-	gcc $(CFLAGS) -I$(INSTALLED)/include $(INSTALLED)/nine.c -L$(INSTALLED)/lib -lrungteasel -o $(INSTALLED)/nine
+	sed 's,"../include/kernel.h",<kernel.h>,' examples/nine.c > $(INSTALLED)/nine.c
+	gcc $(CFLAGS) -I$(INSTALLED)/include $(INSTALLED)/nine.c -L$(INSTALLED)/lib -lkernel -o $(INSTALLED)/nine
 	$(INSTALLED)/nine | diff examples/nine.txt -
 	$(TESTS)
 	tools/gate.sh
