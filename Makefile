@@ -76,11 +76,11 @@ build:
 test: build
 	$(MAKE) $(EXAMPLES:%=target/%) target/show rehearse
 	for name in $(EXAMPLES); do target/$$name | diff examples/$$name.txt - || exit 1; done
-	target/show examples/script.txt target/sample.svg | diff tests/show/sample.txt -
+	target/show tests/show/script.txt target/sample.svg | diff tests/show/sample.txt -
 	diff docs/sample.svg target/sample.svg
 	for name in $(SHOWN); do target/show tests/show/$$name.script target/$$name.svg | diff tests/show/$$name.txt - || exit 1; done
 	for name in $(SHOWN); do diff tests/show/$$name.svg target/$$name.svg || exit 1; done
-	$(MAKE) --silent run | diff tests/show/run.txt -
+	$(MAKE) --silent run SCRIPT=tests/show/script.txt | diff tests/show/run.txt -
 	$(MAKE) install DESTDIR=$(INSTALLED) PREFIX=
 	sed 's,"../include/kernel.h",<kernel.h>,' examples/nine.c > $(INSTALLED)/nine.c
 	gcc $(CFLAGS) -I$(INSTALLED)/include $(INSTALLED)/nine.c -L$(INSTALLED)/lib -lkernel -o $(INSTALLED)/nine
