@@ -55,7 +55,8 @@ pub fn wait(area: &mut [u16], shape: Shape, lock: u16, condition: u16, ticks: Ti
         return answers::refusal(9);
     }
     let moved = locks::release(area, shape, lock);
-    if again::called_off(area, shape, running, condition) {
+    let off = again::called_off(area, shape, running, condition);
+    if off {
         return answers::finish(area, shape, 0, moved, 0);
     }
     let wakeup = area::get(area, places::wakeup(shape, condition));

@@ -31,8 +31,8 @@ returns-then-holder-running c s H v = wait_foreign H c.args.lock c.args.conditio
 pub release-moved-requires : goal.release-moved-requires
 release-moved-requires c = record { held = (c.requires.state, c.requires.holds); lock_value = two_first c.calling_two-code.ensures c.if-code-ne0.false }
 
-pub called_off-requires : goal.called_off-requires
-called_off-requires c =
+pub called_off-off-requires : goal.called_off-off-requires
+called_off-off-requires c =
     let runner : inside c.args.shape.processes c.running_of-running.result ≡ true = member_inside c.args.shape c.requires.state c.requires.valid.placed _ ready
     (runner_stands (c.running_of-running.ensures c.args.shape c.requires.state c.requires.holds) c.requires.valid (two_runs c.calling_two-code.ensures c.if-code-ne0.false)) in
     record { held = (_, (c.release-moved.ensures c.requires.state c.requires.holds).1.holds); p_value = runner; condition_value = two_second c.calling_two-code.ensures c.if-code-ne0.false }
@@ -40,11 +40,11 @@ called_off-requires c =
 pub finish-requires : goal.finish-requires
 finish-requires c = (_, (c.release-moved.ensures c.requires.state c.requires.holds).1.holds)
 
-pub returns-then-called_off : goal.returns-then-called_off
-returns-then-called_off c s H v =
+pub returns-then-off : goal.returns-then-off
+returns-then-off c s H v =
     let t = c.release-moved.ensures s H in
     wait_off H c.args.lock c.args.condition c.args.ticks (c.running_of-running.ensures c.args.shape s H) c.calling_two-code.ensures c.if-code-ne0.false (c.holder_of-holder.ensures s H) c.if-holder-running.false t.0
-    (c.called_off.ensures _ t.1.holds) c.if-called_off.true t.1 (c.finish.ensures _ t.1.holds)
+    (c.called_off-off.ensures _ t.1.holds) c.if-off.true t.1 (c.finish.ensures _ t.1.holds)
 
 pub wakeup-requires : goal.wakeup-requires
 wakeup-requires c = two_second c.calling_two-code.ensures c.if-code-ne0.false
@@ -72,7 +72,7 @@ returns-then-wakeup-ne0 c s H v =
     let L = c.wakeup-then-wakeup-ne0.ensures in
     let b = c.put.ensures c.args.shape _ (wakeup c.args.condition) t.1.holds (taking (wakeup c.args.condition) L refl (rw L.0 (omega arith))) in
     wait_over H c.args.lock c.args.condition c.args.ticks (c.running_of-running.ensures c.args.shape s H) c.calling_two-code.ensures c.if-code-ne0.false (c.holder_of-holder.ensures s H) c.if-holder-running.false t.0
-    (c.called_off.ensures _ t.1.holds) c.if-called_off.false wakes c.if-wakeup-ne0.true (becomes_then t.1 b) (c.finish-then-wakeup-ne0.ensures _ b.holds)
+    (c.called_off-off.ensures _ t.1.holds) c.if-off.false wakes c.if-wakeup-ne0.true (becomes_then t.1 b) (c.finish-then-wakeup-ne0.ensures _ b.holds)
 
 pub sleep-ahead-requires : goal.sleep-ahead-requires
 sleep-ahead-requires c =
@@ -91,4 +91,4 @@ returns c s H v =
     let wakes = c.get-wakeup.ensures c.args.shape _ (wakeup c.args.condition) t.1.holds c.wakeup.ensures in
     let b = c.sleep-ahead.ensures _ t.1.holds (waiter s H v) in
     wait_sleeps H c.args.lock c.args.condition c.args.ticks (c.running_of-running.ensures c.args.shape s H) c.calling_two-code.ensures c.if-code-ne0.false (c.holder_of-holder.ensures s H) c.if-holder-running.false t.0
-    (c.called_off.ensures _ t.1.holds) c.if-called_off.false wakes c.if-wakeup-ne0.false b.0 (becomes_then t.1 b.1) (c.finish-2.ensures _ b.1.holds)
+    (c.called_off-off.ensures _ t.1.holds) c.if-off.false wakes c.if-wakeup-ne0.false b.0 (becomes_then t.1 b.1) (c.finish-2.ensures _ b.1.holds)

@@ -1,4 +1,4 @@
-use Rattle.std.proofs.Common.{arith, ltb-true}
+use Rattle.std.proofs.Common.{arith}
 use Rattle.broadcasts.proofs.Ticking.{low_next}
 use Rattle.broadcasts.proofs.clock.next_waited.Goals as goal
 
@@ -12,7 +12,7 @@ pub loop-i-smaller : goal.loop-i-smaller
 loop-i-smaller c = omega arith
 
 pub loop-i-preserved : goal.loop-i-preserved
-loop-i-preserved c = (omega arith, omega arith, low_next c.args.area.now _ _ c.loop-i.invariant.2 (ltb-true _ _ c.if-area-i-lt-NUMBER.true-raw))
+loop-i-preserved c = (omega arith, omega arith, low_next c.args.area.now _ _ c.loop-i.invariant.2 c.if-area-i-lt-NUMBER.true)
 
 pub returns-else-area-i-lt-NUMBER : goal.returns-else-area-i-lt-NUMBER
 returns-else-area-i-lt-NUMBER c = c.loop-i.invariant
