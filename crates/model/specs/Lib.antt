@@ -2,6 +2,7 @@ pub mod Queue
 pub mod Field
 pub mod Rules
 pub mod Machine
+pub mod Refusals
 pub mod Ledger
 pub mod Valid
 pub mod Timers

@@ -1,6 +1,9 @@
 // What the kernel is called with and what it answers, as types; the tuple structs keep numbers of different kinds apart. Assumes nothing.
 #![tactic(auto)]
 
+ghost use Rattle.std.specs.Prelude.{◌≡◌};
+ghost use Rattle.model.specs.Refusals.{code_of};
+
 // The four counts of an area.
 #[derive(Clone, Copy)]
 pub struct Shape {
@@ -83,4 +86,49 @@ pub struct Answer {
 pub struct Report {
     pub code: u16,
     pub count: u16,
+}
+
+// Why a call is refused; the codes are 01's.
+#[derive(Clone, Copy)]
+pub enum Refusal {
+    // The area is not sound.
+    Unsound,
+    // A count is out of range.
+    BadCount,
+    // The list is not as long as there are processes.
+    BadList,
+    // A priority is above 7.
+    BadPriority,
+    // The area, the buffer or the page is too short.
+    Short,
+    // Nobody runs.
+    Nobody,
+    // No such lock, condition, park, process, queue or value.
+    NoSuch,
+    // The running process holds the lock already.
+    Held,
+    // The running process does not hold the lock.
+    NotHeld,
+    // The process does not stand in the source queue.
+    NotThere,
+}
+
+impl Refusal {
+    // The code, as C and a log have it.
+    pub fn code(self) -> u16
+        ensures { result ≡ code_of self }
+    {
+        match self {
+            Refusal::Unsound => 1,
+            Refusal::BadCount => 2,
+            Refusal::BadList => 3,
+            Refusal::BadPriority => 4,
+            Refusal::Short => 5,
+            Refusal::Nobody => 6,
+            Refusal::NoSuch => 7,
+            Refusal::Held => 8,
+            Refusal::NotHeld => 9,
+            Refusal::NotThere => 10,
+        }
+    }
 }

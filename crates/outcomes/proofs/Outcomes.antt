@@ -15,6 +15,9 @@ use Rattle.model.specs.Queue.Queue.{ready}
 use Rattle.model.specs.Field.{Fields, priorities}
 use Rattle.model.specs.Rules.{Effect, when, choose, decide}
 use Rattle.model.specs.Rules.Effect.{refuse, accept}
+use Rattle.model.specs.declared.Refusal.{Refusal}
+use Rattle.model.specs.declared.Refusal.TheVariants.{Unsound, BadCount, BadList, BadPriority, Short, Nobody, NoSuch, Held, NotHeld, NotThere}
+use Rattle.model.specs.Refusals.{code_of}
 use Rattle.model.specs.Machine.{State, model, moves, arrivals, ahead, finish, step, refusal}
 use Rattle.model.proofs.Tests.{eqb_yes, eqb_no, not_true, or_split}
 use Rattle.model.proofs.Places.{ahead_ready}
@@ -41,6 +44,19 @@ unfolding choose
 choose_no d e h = rw h
 
 -- ---- codes that several calls share
+
+-- a refusal's code is not 0
+pub refusing : (why : Refusal) → code_of why ≢ 0
+refusing Unsound = omega arith
+refusing BadCount = omega arith
+refusing BadList = omega arith
+refusing BadPriority = omega arith
+refusing Short = omega arith
+refusing Nobody = omega arith
+refusing NoSuch = omega arith
+refusing Held = omega arith
+refusing NotHeld = omega arith
+refusing NotThere = omega arith
 
 -- tests that give the code k: where it is not 0 they refuse by it, and where it is 0 they let the rule go on
 pub record Tested (k : ℕ) (tests : Effect → Effect) : Type 0 where

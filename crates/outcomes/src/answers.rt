@@ -2,10 +2,11 @@
 ghost use Rattle.std.specs.Prelude.{◌≡◌};
 ghost use Rattle.model.specs.Machine as machine;
 ghost use Rattle.model.specs.Machine.{State, model};
+ghost use Rattle.model.specs.Refusals as refusals;
 ghost use Rattle.area.specs.Holds.{Holds, Held, Gives};
 
 use crate::dispatch;
-use model::{Answer, Shape};
+use model::{Answer, Refusal, Shape};
 
 // A refusal: its code, and zeros.
 pub fn refusal(code: u16) -> Answer
@@ -18,6 +19,16 @@ pub fn refusal(code: u16) -> Answer
         mark: 0,
         moved: 0,
         ahead: 0,
+    }
+}
+
+// What is told of a call: its answer or, where it is refused, the code and zeros.
+pub fn told(outcome: Result<Answer, Refusal>) -> Answer
+    ensures { result ≡ refusals.told outcome }
+{
+    match outcome {
+        Ok(answer) => answer,
+        Err(why) => refusal(why.code()),
     }
 }
 

@@ -1,36 +1,36 @@
-// The tests that several calls share, each as the code that it refuses by, 0 where the call goes on. Assumes nothing.
+// The tests that several calls share, each with the refusal that it ends a call by. Assumes nothing.
+ghost use Rattle.model.specs.Refusals.{code_in};
 ghost use Rattle.area.specs.Calls.{Missing, Calling, CallingTwo};
 
-// 7 where i is none of the n that there are.
-pub fn missing(n: u16, i: u16) -> u16
-    ensures { Missing n i result }
+use model::Refusal;
+
+// No such thing where i is none of the n that there are.
+pub fn missing(n: u16, i: u16) -> Result<(), Refusal>
+    ensures { Missing n i (code_in result) }
 {
     if i == 0 {
-        return 7;
+        return Err(Refusal::NoSuch);
     }
     if n < i {
-        return 7;
+        return Err(Refusal::NoSuch);
     }
-    0
+    Ok(())
 }
 
-// 6 where nobody runs to make the call, else 7 where i is none of the n.
-pub fn calling(running: u16, n: u16, i: u16) -> u16
-    ensures { Calling running n i result }
+// Nobody where nobody runs to make the call, else no such thing where i is none of the n.
+pub fn calling(running: u16, n: u16, i: u16) -> Result<(), Refusal>
+    ensures { Calling running n i (code_in result) }
 {
     if running == 0 {
-        return 6;
+        return Err(Refusal::Nobody);
     }
     missing(n, i)
 }
 
-// 6 where nobody runs to make the call, else 7 where i is none of the n or j none of the m.
-pub fn calling_two(running: u16, n: u16, i: u16, m: u16, j: u16) -> u16
-    ensures { CallingTwo running n i m j result }
+// Nobody where nobody runs to make the call, else no such thing where i is none of the n or j none of the m.
+pub fn calling_two(running: u16, n: u16, i: u16, m: u16, j: u16) -> Result<(), Refusal>
+    ensures { CallingTwo running n i m j (code_in result) }
 {
-    let code = calling(running, n, i);
-    if code != 0 {
-        return code;
-    }
+    calling(running, n, i)?;
     missing(m, j)
 }
