@@ -25,8 +25,8 @@ use Rattle.outcomes.proofs.Outcomes.{when_no, choose_yes, Tested, two_tested, tw
 
 -- x and y are its abort and the condition's abortable
 module _ {x v : ℕ} (ex : x ≡ v) where
-  pub off_clear : (b : Bool) → x ≡ 0 → false ≡ some v && b
-  off_clear b z = rw (eqb_yes v 0 (sym ex ∙ z))
+  pub off_clear : (b : Bool) → x ≡ 0 → not (eqb x 0) ≡ some v && b
+  off_clear b z = rw (eqb_yes x 0 z, eqb_yes v 0 (sym ex ∙ z))
 
   pub off_set : {y w : ℕ} → x ≢ 0 → y ≡ w → not (eqb y 0) ≡ some v && some w
   off_set o d = rw (eqb_no v 0 (λ z. o (ex ∙ z)), d)

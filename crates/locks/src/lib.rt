@@ -10,11 +10,12 @@ ghost use Rattle.model.specs.Field.Field.{failed, holder};
 ghost use Rattle.model.specs.Rules.{released};
 ghost use Rattle.model.specs.Machine.{State, model};
 ghost use Rattle.model.specs.Valid.{Valid};
+ghost use Rattle.model.specs.Refusals.{told};
 ghost use Rattle.area.specs.Holds.{Holds, Held, Becomes};
 ghost use Rattle.area.specs.Calls.{Stands, Does, changed};
 
 use area::places;
-use model::{Answer, Shape};
+use model::{Answer, Refusal, Shape};
 use outcomes::{answers, codes};
 
 pub mod again;
@@ -49,40 +50,34 @@ fn block(area: &mut [u16], shape: Shape, lock: u16, p: u16) -> u16
     moves::queue(area, base, to, p, 0)
 }
 
-pub fn enter(area: &mut [u16], shape: Shape, lock: u16) -> Answer
+pub fn enter(area: &mut [u16], shape: Shape, lock: u16) -> Result<Answer, Refusal>
     requires { Stands shape area.old }
-    ensures { (s : State model) → Holds shape area.old s → Valid shape s → Does (Enter lock) shape area.old area.new s result }
+    ensures { (s : State model) → Holds shape area.old s → Valid shape s → Does (Enter lock) shape area.old area.new s (told result) }
 {
     let running = area::running_of(area);
-    let code = codes::calling(running, shape.locks, lock);
-    if code != 0 {
-        return answers::refusal(code);
-    }
+    codes::calling(running, shape.locks, lock)?;
     let holder = area::holder_of(area, shape, lock);
     if holder == running {
-        return answers::refusal(8);
+        return Err(Refusal::Held);
     }
     if holder == 0 {
         area::set_holder(area, shape, lock, running);
-        return answers::finish(area, shape, 1, 0, 0);
+        return Ok(answers::finish(area, shape, 1, 0, 0));
     }
     let ahead = block(area, shape, lock, running);
-    answers::finish(area, shape, 0, 0, ahead)
+    Ok(answers::finish(area, shape, 0, 0, ahead))
 }
 
-pub fn exit(area: &mut [u16], shape: Shape, lock: u16) -> Answer
+pub fn exit(area: &mut [u16], shape: Shape, lock: u16) -> Result<Answer, Refusal>
     requires { Stands shape area.old }
-    ensures { (s : State model) → Holds shape area.old s → Valid shape s → Does (Exit lock) shape area.old area.new s result }
+    ensures { (s : State model) → Holds shape area.old s → Valid shape s → Does (Exit lock) shape area.old area.new s (told result) }
 {
     let running = area::running_of(area);
-    let code = codes::calling(running, shape.locks, lock);
-    if code != 0 {
-        return answers::refusal(code);
-    }
+    codes::calling(running, shape.locks, lock)?;
     let holder = area::holder_of(area, shape, lock);
     if holder != running {
-        return answers::refusal(9);
+        return Err(Refusal::NotHeld);
     }
     let moved = release(area, shape, lock);
-    answers::finish(area, shape, 0, moved, 0)
+    Ok(answers::finish(area, shape, 0, moved, 0))
 }

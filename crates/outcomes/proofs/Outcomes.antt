@@ -7,6 +7,7 @@ use mathlib.Core.Logic.{◌≢◌}
 use mathlib.Core.Bool.{Bool, true, false, not, ◌||◌, cond, true≢false}
 use mathlib.Core.List.{List}
 use lib.Dec.{eqb}
+use Rattle.std.proofs.Common.{Result, Ok, Err, IsErrAnd}
 use Rattle.model.specs.declared.Shape.{Shape}
 use Rattle.model.specs.declared.Call.{Call}
 use Rattle.model.specs.declared.Answer.{Answer}
@@ -17,7 +18,7 @@ use Rattle.model.specs.Rules.{Effect, when, choose, decide}
 use Rattle.model.specs.Rules.Effect.{refuse, accept}
 use Rattle.model.specs.declared.Refusal.{Refusal}
 use Rattle.model.specs.declared.Refusal.TheVariants.{Unsound, BadCount, BadList, BadPriority, Short, Nobody, NoSuch, Held, NotHeld, NotThere}
-use Rattle.model.specs.Refusals.{code_of}
+use Rattle.model.specs.Refusals.{code_of, told}
 use Rattle.model.specs.Machine.{State, model, moves, arrivals, ahead, finish, step, refusal}
 use Rattle.model.proofs.Tests.{eqb_yes, eqb_no, not_true, or_split}
 use Rattle.model.proofs.Places.{ahead_ready}
@@ -57,6 +58,11 @@ refusing NoSuch = omega arith
 refusing Held = omega arith
 refusing NotHeld = omega arith
 refusing NotThere = omega arith
+
+-- what is told where `?` hands a refusal on
+pub early : (why : Refusal) (r : Result Answer Refusal) → IsErrAnd r (λ e. e ≡ why) → told r ≡ refusal (code_of why)
+early why (Ok a) h = absurd h
+early why (Err e) h = rw h refl
 
 -- tests that give the code k: where it is not 0 they refuse by it, and where it is 0 they let the rule go on
 pub record Tested (k : ℕ) (tests : Effect → Effect) : Type 0 where

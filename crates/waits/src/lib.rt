@@ -8,12 +8,13 @@ ghost use Rattle.model.specs.Queue.Queue.{ready};
 ghost use Rattle.model.specs.Rules.{alarm, arm};
 ghost use Rattle.model.specs.Machine.{State, model};
 ghost use Rattle.model.specs.Valid.{Valid};
+ghost use Rattle.model.specs.Refusals.{told};
 ghost use Rattle.area.specs.Holds.{Holds, Becomes};
 ghost use Rattle.area.specs.Calls.{Stands, Does, changed};
 
 use area::places;
 use locks::again;
-use model::{Answer, Shape, Ticks};
+use model::{Answer, Refusal, Shape, Ticks};
 use outcomes::{answers, codes};
 
 // The timer of a wait of t ticks: the clock plus t, going round, or 0 for none.
@@ -41,29 +42,26 @@ fn sleep(area: &mut [u16], shape: Shape, condition: u16, p: u16, ticks: Ticks) -
     moves::queue(area, base, to, p, 1)
 }
 
-pub fn wait(area: &mut [u16], shape: Shape, lock: u16, condition: u16, ticks: Ticks) -> Answer
+pub fn wait(area: &mut [u16], shape: Shape, lock: u16, condition: u16, ticks: Ticks) -> Result<Answer, Refusal>
     requires { Stands shape area.old }
-    ensures { (s : State model) → Holds shape area.old s → Valid shape s → Does (Wait lock condition ticks) shape area.old area.new s result }
+    ensures { (s : State model) → Holds shape area.old s → Valid shape s → Does (Wait lock condition ticks) shape area.old area.new s (told result) }
 {
     let running = area::running_of(area);
-    let code = codes::calling_two(running, shape.locks, lock, shape.conditions, condition);
-    if code != 0 {
-        return answers::refusal(code);
-    }
+    codes::calling_two(running, shape.locks, lock, shape.conditions, condition)?;
     let holder = area::holder_of(area, shape, lock);
     if holder != running {
-        return answers::refusal(9);
+        return Err(Refusal::NotHeld);
     }
     let moved = locks::release(area, shape, lock);
     let off = again::called_off(area, shape, running, condition);
     if off {
-        return answers::finish(area, shape, 0, moved, 0);
+        return Ok(answers::finish(area, shape, 0, moved, 0));
     }
     let wakeup = area::get(area, places::wakeup(shape, condition));
     if wakeup != 0 {
         area::put(area, places::wakeup(shape, condition), 0);
-        return answers::finish(area, shape, 0, moved, 0);
+        return Ok(answers::finish(area, shape, 0, moved, 0));
     }
     let ahead = sleep(area, shape, condition, running, ticks);
-    answers::finish(area, shape, 1, moved, ahead)
+    Ok(answers::finish(area, shape, 1, moved, ahead))
 }

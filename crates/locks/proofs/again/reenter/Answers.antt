@@ -10,7 +10,7 @@ use Rattle.model.specs.Valid.{Valid}
 use Rattle.area.specs.Holds.{Holds}
 use Rattle.area.proofs.Rings.{member_inside}
 use Rattle.moves.proofs.Shared.{runner_stands, runner_small, taking}
-use Rattle.outcomes.proofs.Outcomes.{two_runs, two_first, two_second, two_calling}
+use Rattle.outcomes.proofs.Outcomes.{refusing, early, two_runs, two_first, two_second, two_calling}
 use Rattle.locks.proofs.Locking.{enter_own, enter_free, enter_taken}
 use Rattle.locks.proofs.Reentry.{reenter_refused, reenter_locked_lem, reenter_off, reenter_free}
 use Rattle.locks.proofs.again.reenter.Goals as goal
@@ -18,43 +18,43 @@ use Rattle.locks.proofs.again.reenter.Goals as goal
 pub running_of-running-requires : goal.running_of-running-requires
 running_of-running-requires c = (c.args.shape, (c.requires.state, c.requires.holds))
 
-pub returns-then-code-ne0 : goal.returns-then-code-ne0
-returns-then-code-ne0 c s H v = reenter_refused H c.args.lock c.args.condition (c.running_of-running.ensures c.args.shape s H) c.calling_two-code.ensures c.if-code-ne0.true c.refusal.ensures
+pub returns-in_err-calling_two : goal.returns-in_err-calling_two
+returns-in_err-calling_two c s H v = reenter_refused H c.args.lock c.args.condition (c.running_of-running.ensures c.args.shape s H) c.in_err-calling_two.ensures (refusing _) (early _ _ c.from_residual.ensures.1)
 
 pub holder_of-holder-requires : goal.holder_of-holder-requires
-holder_of-holder-requires c = record { held = (c.requires.state, c.requires.holds); l_value = two_first c.calling_two-code.ensures c.if-code-ne0.false }
+holder_of-holder-requires c = record { held = (c.requires.state, c.requires.holds); l_value = two_first c.in_ok-calling_two.ensures refl }
 
 pub returns-then-holder-running : goal.returns-then-holder-running
 returns-then-holder-running c s H v =
-    reenter_locked_lem H c.args.lock c.args.condition (c.running_of-running.ensures c.args.shape s H) c.calling_two-code.ensures c.if-code-ne0.false (c.holder_of-holder.ensures s H) (λ e. two_runs c.calling_two-code.ensures c.if-code-ne0.false (sym c.if-holder-running.true ∙ e))
-    (enter_own H c.args.lock (c.running_of-running.ensures c.args.shape s H) (two_calling c.calling_two-code.ensures c.if-code-ne0.false) c.if-code-ne0.false (c.holder_of-holder.ensures s H) c.if-holder-running.true c.refusal-then-holder-running.ensures)
+    reenter_locked_lem H c.args.lock c.args.condition (c.running_of-running.ensures c.args.shape s H) c.in_ok-calling_two.ensures refl (c.holder_of-holder.ensures s H) (λ e. two_runs c.in_ok-calling_two.ensures refl (sym c.if-holder-running.true ∙ e))
+    (enter_own H c.args.lock (c.running_of-running.ensures c.args.shape s H) (two_calling c.in_ok-calling_two.ensures refl) refl (c.holder_of-holder.ensures s H) c.if-holder-running.true refl)
 
 pub block-ahead-requires : goal.block-ahead-requires
 block-ahead-requires c =
-    let stands : (s : State model) → Holds c.args.shape c.args.area.now s → Valid c.args.shape s → member c.running_of-running.result (s.queues ready) ≡ true = λ s H v. runner_stands (c.running_of-running.ensures c.args.shape s H) v (two_runs c.calling_two-code.ensures c.if-code-ne0.false) in
-    record { holds = (c.requires.state, c.requires.holds, stands c.requires.state c.requires.holds c.requires.valid); lock_value = two_first c.calling_two-code.ensures c.if-code-ne0.false }
+    let stands : (s : State model) → Holds c.args.shape c.args.area.now s → Valid c.args.shape s → member c.running_of-running.result (s.queues ready) ≡ true = λ s H v. runner_stands (c.running_of-running.ensures c.args.shape s H) v (two_runs c.in_ok-calling_two.ensures refl) in
+    record { holds = (c.requires.state, c.requires.holds, stands c.requires.state c.requires.holds c.requires.valid); lock_value = two_first c.in_ok-calling_two.ensures refl }
 
 pub finish-requires : goal.finish-requires
 finish-requires c =
-    let stands : (s : State model) → Holds c.args.shape c.args.area.now s → Valid c.args.shape s → member c.running_of-running.result (s.queues ready) ≡ true = λ s H v. runner_stands (c.running_of-running.ensures c.args.shape s H) v (two_runs c.calling_two-code.ensures c.if-code-ne0.false) in
+    let stands : (s : State model) → Holds c.args.shape c.args.area.now s → Valid c.args.shape s → member c.running_of-running.result (s.queues ready) ≡ true = λ s H v. runner_stands (c.running_of-running.ensures c.args.shape s H) v (two_runs c.in_ok-calling_two.ensures refl) in
     (_, (c.block-ahead.ensures c.requires.state c.requires.holds (stands c.requires.state c.requires.holds c.requires.valid)).1.holds)
 
 pub returns-then-holder-ne0 : goal.returns-then-holder-ne0
 returns-then-holder-ne0 c s H v =
-    let stands : (s : State model) → Holds c.args.shape c.args.area.now s → Valid c.args.shape s → member c.running_of-running.result (s.queues ready) ≡ true = λ s H v. runner_stands (c.running_of-running.ensures c.args.shape s H) v (two_runs c.calling_two-code.ensures c.if-code-ne0.false) in
+    let stands : (s : State model) → Holds c.args.shape c.args.area.now s → Valid c.args.shape s → member c.running_of-running.result (s.queues ready) ≡ true = λ s H v. runner_stands (c.running_of-running.ensures c.args.shape s H) v (two_runs c.in_ok-calling_two.ensures refl) in
     let t = c.block-ahead.ensures s H (stands s H v) in
-    reenter_locked_lem H c.args.lock c.args.condition (c.running_of-running.ensures c.args.shape s H) c.calling_two-code.ensures c.if-code-ne0.false (c.holder_of-holder.ensures s H) c.if-holder-ne0.true
-    (enter_taken H c.args.lock (c.running_of-running.ensures c.args.shape s H) (two_calling c.calling_two-code.ensures c.if-code-ne0.false) c.if-code-ne0.false (c.holder_of-holder.ensures s H) c.if-holder-running.false c.if-holder-ne0.true t (c.finish.ensures _ t.1.holds))
+    reenter_locked_lem H c.args.lock c.args.condition (c.running_of-running.ensures c.args.shape s H) c.in_ok-calling_two.ensures refl (c.holder_of-holder.ensures s H) c.if-holder-ne0.true
+    (enter_taken H c.args.lock (c.running_of-running.ensures c.args.shape s H) (two_calling c.in_ok-calling_two.ensures refl) refl (c.holder_of-holder.ensures s H) c.if-holder-running.false c.if-holder-ne0.true t (c.finish.ensures _ t.1.holds))
 
 pub called_off-requires : goal.called_off-requires
 called_off-requires c =
-    let stands : (s : State model) → Holds c.args.shape c.args.area.now s → Valid c.args.shape s → member c.running_of-running.result (s.queues ready) ≡ true = λ s H v. runner_stands (c.running_of-running.ensures c.args.shape s H) v (two_runs c.calling_two-code.ensures c.if-code-ne0.false) in
+    let stands : (s : State model) → Holds c.args.shape c.args.area.now s → Valid c.args.shape s → member c.running_of-running.result (s.queues ready) ≡ true = λ s H v. runner_stands (c.running_of-running.ensures c.args.shape s H) v (two_runs c.in_ok-calling_two.ensures refl) in
     let runner : inside c.args.shape.processes c.running_of-running.result ≡ true = member_inside c.args.shape c.requires.state c.requires.valid.placed _ ready (stands c.requires.state c.requires.holds c.requires.valid) in
-    record { held = (c.requires.state, c.requires.holds); p_value = runner; condition_value = two_second c.calling_two-code.ensures c.if-code-ne0.false }
+    record { held = (c.requires.state, c.requires.holds); p_value = runner; condition_value = two_second c.in_ok-calling_two.ensures refl }
 
 pub abort-requires : goal.abort-requires
 abort-requires c =
-    let stands : (s : State model) → Holds c.args.shape c.args.area.now s → Valid c.args.shape s → member c.running_of-running.result (s.queues ready) ≡ true = λ s H v. runner_stands (c.running_of-running.ensures c.args.shape s H) v (two_runs c.calling_two-code.ensures c.if-code-ne0.false) in
+    let stands : (s : State model) → Holds c.args.shape c.args.area.now s → Valid c.args.shape s → member c.running_of-running.result (s.queues ready) ≡ true = λ s H v. runner_stands (c.running_of-running.ensures c.args.shape s H) v (two_runs c.in_ok-calling_two.ensures refl) in
     let runner : inside c.args.shape.processes c.running_of-running.result ≡ true = member_inside c.args.shape c.requires.state c.requires.valid.placed _ ready (stands c.requires.state c.requires.holds c.requires.valid) in
     runner
 
@@ -72,10 +72,10 @@ pub returns-then-called_off : goal.returns-then-called_off
 returns-then-called_off c s H v =
     let L = c.abort.ensures in
     let b = c.put.ensures c.args.shape s (abort c.running_of-running.result) H (taking (abort c.running_of-running.result) L refl (rw L.0 (omega arith))) in
-    reenter_off H c.args.lock c.args.condition (c.running_of-running.ensures c.args.shape s H) c.calling_two-code.ensures c.if-code-ne0.false (c.called_off.ensures s H) (c.holder_of-holder.ensures s H) c.if-holder-running.false c.if-holder-ne0.false c.if-called_off.true b (c.finish-then-called_off.ensures _ b.holds)
+    reenter_off H c.args.lock c.args.condition (c.running_of-running.ensures c.args.shape s H) c.in_ok-calling_two.ensures refl (c.called_off.ensures s H) (c.holder_of-holder.ensures s H) c.if-holder-running.false c.if-holder-ne0.false c.if-called_off.true b (c.finish-then-called_off.ensures _ b.holds)
 
 pub set_holder-requires : goal.set_holder-requires
-set_holder-requires c = record { held = (c.requires.state, c.requires.holds); l_value = two_first c.calling_two-code.ensures c.if-code-ne0.false; p_le_processes = runner_small (c.running_of-running.ensures c.args.shape c.requires.state c.requires.holds) c.requires.valid }
+set_holder-requires c = record { held = (c.requires.state, c.requires.holds); l_value = two_first c.in_ok-calling_two.ensures refl; p_le_processes = runner_small (c.running_of-running.ensures c.args.shape c.requires.state c.requires.holds) c.requires.valid }
 
 pub finish-requires-2 : goal.finish-requires-2
 finish-requires-2 c = (_, (c.set_holder.ensures c.requires.state c.requires.holds).holds)
@@ -83,5 +83,5 @@ finish-requires-2 c = (_, (c.set_holder.ensures c.requires.state c.requires.hold
 pub returns : goal.returns
 returns c s H v =
     let b = c.set_holder.ensures s H in
-    reenter_free H c.args.lock c.args.condition (c.running_of-running.ensures c.args.shape s H) c.calling_two-code.ensures c.if-code-ne0.false (c.called_off.ensures s H) c.if-called_off.false
-    (enter_free H c.args.lock (c.running_of-running.ensures c.args.shape s H) (two_calling c.calling_two-code.ensures c.if-code-ne0.false) c.if-code-ne0.false (c.holder_of-holder.ensures s H) c.if-holder-running.false c.if-holder-ne0.false b (c.finish-2.ensures _ b.holds))
+    reenter_free H c.args.lock c.args.condition (c.running_of-running.ensures c.args.shape s H) c.in_ok-calling_two.ensures refl (c.called_off.ensures s H) c.if-called_off.false
+    (enter_free H c.args.lock (c.running_of-running.ensures c.args.shape s H) (two_calling c.in_ok-calling_two.ensures refl) refl (c.holder_of-holder.ensures s H) c.if-holder-running.false c.if-holder-ne0.false b (c.finish-2.ensures _ b.holds))
