@@ -1,12 +1,15 @@
 -- From a call on a state to a call on words: a sound area holds the state that it says, and an area that holds a state is every word of it.
 -- Assumes nothing.
 use Prim.Native.Nat.{ℕ}
-use mathlib.Core.Path.{◌≡◌, refl}
-use mathlib.Core.Bool.{Bool, true, false, not}
+use mathlib.Core.Path.{◌≡◌, refl, ap, ◌∙◌}
 use mathlib.Core.List.{List}
+use Rattle.std.proofs.Common.{Result, IsErrAnd}
 use Rattle.model.specs.declared.Shape.{Shape}
 use Rattle.model.specs.declared.Call.{Call}
 use Rattle.model.specs.declared.Answer.{Answer}
+use Rattle.model.specs.declared.Refusal.{Refusal}
+use Rattle.model.specs.declared.Refusal.TheVariants.{Unsound}
+use Rattle.model.specs.Refusals.{code_of, told}
 use Rattle.model.specs.Machine.{State, model, refusal}
 use Rattle.model.specs.Valid.{Valid}
 use Rattle.area.specs.State.{write}
@@ -15,7 +18,8 @@ use Rattle.area.specs.Sound.{Sound}
 use Rattle.area.specs.Holds.{Holds, Becomes}
 use Rattle.area.proofs.Whole.{stored_write}
 use Rattle.area.specs.Calls.{Does}
-use Rattle.sound.proofs.Asked.{own_holds, Checked, not_sound, checked}
+use Rattle.outcomes.proofs.Outcomes.{early}
+use Rattle.sound.proofs.Asked.{own_holds}
 use Rattle.monitor.specs.Calls.{Performs}
 
 -- an area that has become one of a state is every word of it
@@ -26,13 +30,13 @@ becomes_write {n} {old} {new} {s} b = stored_write n old new s record { image = 
 performs : {old : List ℕ} (S : Sound old) {c : Call} {new : List ℕ} {a : Answer} → Does c (shape_of old) old new (state_of old) a → Performs c old new a
 performs S d = record { unsound = λ h. absurd (h S); sound = λ z. (d.answer, becomes_write d.becomes) }
 
--- ---- at the places of a call's code: r is what the check of soundness says, and n are the counts that were read
+-- ---- at the places of a call's code, with n the counts of a sound area
 
-pub performs_not : {old : List ℕ} {r : Bool} → Checked old r → not r ≡ true → {c : Call} {a : Answer} → a ≡ refusal 1 → Performs c old old a
-performs_not h k e = record { unsound = λ z. (e, refl); sound = λ S. absurd (not_sound h k S) }
+pub performs_not : {old : List ℕ} {why : Refusal} → (Sound old → ⊥) × (why ≡ Unsound) → {c : Call} (r : Result Answer Refusal) → IsErrAnd r (λ e. e ≡ why) → Performs c old old (told r)
+performs_not opened r e = record { unsound = λ z. (early _ r e ∙ ap (λ w. refusal (code_of w)) opened.1, refl); sound = λ S. absurd (opened.0 S) }
 
-pub performs_at : {old : List ℕ} {r : Bool} (h : Checked old r) (k : not r ≡ false) {n : Shape} → n ≡ shape_of old → {c : Call} {new : List ℕ} {a : Answer} → ((s : State model) → Holds n old s → Valid n s → Does c n old new s a) → Performs c old new a
-performs_at {old} h k said d = let S = checked h k in performs S ((rw said at d) (state_of old) (own_holds S) S.valid)
+pub performs_at : {old : List ℕ} {n : Shape} → Sound old × (n ≡ shape_of old) → {c : Call} {new : List ℕ} {a : Answer} → ((s : State model) → Holds n old s → Valid n s → Does c n old new s a) → Performs c old new a
+performs_at {old} opened d = let S = opened.0 in performs S ((rw opened.1 at d) (state_of old) (own_holds S) S.valid)
 
 -- ---- a call known by what it is
 

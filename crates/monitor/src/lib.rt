@@ -1,147 +1,103 @@
 // The kernel's calls on any words whatever: an unsound area is refused, and a sound one is served. Assumes nothing.
 #![tactic(auto)]
 
-ghost use Rattle.std.specs.Prelude.{◌≡◌};
 ghost use Rattle.model.specs.declared.Call.TheVariants.{Enter, Exit, Wait, Notify, Broadcast, Naked, Requeue, SetPriority, Tick, Abort, SetAbortable, Reenter};
-ghost use Rattle.model.specs.Machine.{refusal};
+ghost use Rattle.model.specs.Refusals.{told};
 ghost use Rattle.monitor.specs.Calls.{Performs};
 
-use model::{Answer, Call, Priority, Process, Ticks};
+use model::{Answer, Call, Priority, Process, Refusal, Ticks};
 
-// ---- the calls, each on any words: it is asked whether the area is sound, and the crate that has the call makes it
+// ---- the calls, each on any words: an unsound area is refused, and on a sound one the crate that has the call makes it
 
-// What an unsound area is answered.
-fn unsound() -> Answer
-    ensures { result ≡ refusal 1 }
+pub fn enter(area: &mut [u16], lock: u16) -> Result<Answer, Refusal>
+    ensures { Performs (Enter lock) area.old area.new (told result) }
 {
-    outcomes::answers::refusal(1)
-}
-
-pub fn enter(area: &mut [u16], lock: u16) -> Answer
-    ensures { Performs (Enter lock) area.old area.new result }
-{
-    if !sound::sound(area) {
-        return unsound();
-    }
-    let shape = area::shape_of(area);
+    let shape = sound::shape_of(area)?;
     locks::enter(area, shape, lock)
 }
 
-pub fn exit(area: &mut [u16], lock: u16) -> Answer
-    ensures { Performs (Exit lock) area.old area.new result }
+pub fn exit(area: &mut [u16], lock: u16) -> Result<Answer, Refusal>
+    ensures { Performs (Exit lock) area.old area.new (told result) }
 {
-    if !sound::sound(area) {
-        return unsound();
-    }
-    let shape = area::shape_of(area);
+    let shape = sound::shape_of(area)?;
     locks::exit(area, shape, lock)
 }
 
-pub fn wait(area: &mut [u16], lock: u16, condition: u16, ticks: Ticks) -> Answer
-    ensures { Performs (Wait lock condition ticks) area.old area.new result }
+pub fn wait(area: &mut [u16], lock: u16, condition: u16, ticks: Ticks) -> Result<Answer, Refusal>
+    ensures { Performs (Wait lock condition ticks) area.old area.new (told result) }
 {
-    if !sound::sound(area) {
-        return unsound();
-    }
-    let shape = area::shape_of(area);
+    let shape = sound::shape_of(area)?;
     waits::wait(area, shape, lock, condition, ticks)
 }
 
-pub fn notify(area: &mut [u16], condition: u16) -> Answer
-    ensures { Performs (Notify condition) area.old area.new result }
+pub fn notify(area: &mut [u16], condition: u16) -> Result<Answer, Refusal>
+    ensures { Performs (Notify condition) area.old area.new (told result) }
 {
-    if !sound::sound(area) {
-        return unsound();
-    }
-    let shape = area::shape_of(area);
+    let shape = sound::shape_of(area)?;
     wakes::notify(area, shape, condition)
 }
 
-pub fn broadcast(area: &mut [u16], condition: u16) -> Answer
-    ensures { Performs (Broadcast condition) area.old area.new result }
+pub fn broadcast(area: &mut [u16], condition: u16) -> Result<Answer, Refusal>
+    ensures { Performs (Broadcast condition) area.old area.new (told result) }
 {
-    if !sound::sound(area) {
-        return unsound();
-    }
-    let shape = area::shape_of(area);
+    let shape = sound::shape_of(area)?;
     broadcasts::broadcast(area, shape, condition)
 }
 
-pub fn naked(area: &mut [u16], condition: u16) -> Answer
-    ensures { Performs (Naked condition) area.old area.new result }
+pub fn naked(area: &mut [u16], condition: u16) -> Result<Answer, Refusal>
+    ensures { Performs (Naked condition) area.old area.new (told result) }
 {
-    if !sound::sound(area) {
-        return unsound();
-    }
-    let shape = area::shape_of(area);
+    let shape = sound::shape_of(area)?;
     wakes::naked(area, shape, condition)
 }
 
-pub fn requeue(area: &mut [u16], source: u16, destination: u16, process: Process) -> Answer
-    ensures { Performs (Requeue source destination process) area.old area.new result }
+pub fn requeue(area: &mut [u16], source: u16, destination: u16, process: Process) -> Result<Answer, Refusal>
+    ensures { Performs (Requeue source destination process) area.old area.new (told result) }
 {
-    if !sound::sound(area) {
-        return unsound();
-    }
-    let shape = area::shape_of(area);
+    let shape = sound::shape_of(area)?;
     queues::requeue(area, shape, source, destination, process)
 }
 
-pub fn set_priority(area: &mut [u16], priority: Priority) -> Answer
-    ensures { Performs (SetPriority priority) area.old area.new result }
+pub fn set_priority(area: &mut [u16], priority: Priority) -> Result<Answer, Refusal>
+    ensures { Performs (SetPriority priority) area.old area.new (told result) }
 {
-    if !sound::sound(area) {
-        return unsound();
-    }
-    let shape = area::shape_of(area);
+    let shape = sound::shape_of(area)?;
     queues::ranks::set_priority(area, shape, priority)
 }
 
-pub fn tick(area: &mut [u16]) -> Answer
-    ensures { Performs Tick area.old area.new result }
+pub fn tick(area: &mut [u16]) -> Result<Answer, Refusal>
+    ensures { Performs Tick area.old area.new (told result) }
 {
-    if !sound::sound(area) {
-        return unsound();
-    }
-    let shape = area::shape_of(area);
-    broadcasts::clock::tick(area, shape)
+    let shape = sound::shape_of(area)?;
+    Ok(broadcasts::clock::tick(area, shape))
 }
 
-pub fn abort(area: &mut [u16], process: Process) -> Answer
-    ensures { Performs (Abort process) area.old area.new result }
+pub fn abort(area: &mut [u16], process: Process) -> Result<Answer, Refusal>
+    ensures { Performs (Abort process) area.old area.new (told result) }
 {
-    if !sound::sound(area) {
-        return unsound();
-    }
-    let shape = area::shape_of(area);
+    let shape = sound::shape_of(area)?;
     wakes::aborts::abort(area, shape, process)
 }
 
-pub fn set_abortable(area: &mut [u16], condition: u16, value: u16) -> Answer
-    ensures { Performs (SetAbortable condition value) area.old area.new result }
+pub fn set_abortable(area: &mut [u16], condition: u16, value: u16) -> Result<Answer, Refusal>
+    ensures { Performs (SetAbortable condition value) area.old area.new (told result) }
 {
-    if !sound::sound(area) {
-        return unsound();
-    }
-    let shape = area::shape_of(area);
+    let shape = sound::shape_of(area)?;
     wakes::aborts::set_abortable(area, shape, condition, value)
 }
 
-pub fn reenter(area: &mut [u16], lock: u16, condition: u16) -> Answer
-    ensures { Performs (Reenter lock condition) area.old area.new result }
+pub fn reenter(area: &mut [u16], lock: u16, condition: u16) -> Result<Answer, Refusal>
+    ensures { Performs (Reenter lock condition) area.old area.new (told result) }
 {
-    if !sound::sound(area) {
-        return unsound();
-    }
-    let shape = area::shape_of(area);
+    let shape = sound::shape_of(area)?;
     locks::again::reenter(area, shape, lock, condition)
 }
 
-// Any of the twelve.
+// Any of the twelve, and what is told of it.
 pub fn perform(area: &mut [u16], call: Call) -> Answer
     ensures { Performs call area.old area.new result }
 {
-    match call {
+    outcomes::answers::told(match call {
         Call::Enter { lock } => enter(area, lock),
         Call::Exit { lock } => exit(area, lock),
         Call::Wait {
@@ -162,5 +118,5 @@ pub fn perform(area: &mut [u16], call: Call) -> Answer
         Call::Abort { process } => abort(area, process),
         Call::SetAbortable { condition, value } => set_abortable(area, condition, value),
         Call::Reenter { lock, condition } => reenter(area, lock, condition),
-    }
+    })
 }

@@ -7,9 +7,11 @@ ghost use Rattle.area.specs.Sound.{Sound};
 ghost use Rattle.heads.specs.Heads.{head_at};
 ghost use Rattle.members.specs.Walk.{Met, Told};
 ghost use Rattle.sound.specs.Passed.{passed};
+ghost use Rattle.sound.specs.Opened.{Opens};
 
 use area::layout;
 use members::BROKEN;
+use model::{Refusal, Shape};
 
 // Walks the rings of the queues of a kind, `number` of them, whose words stand first in `heads`; the first `from` of them are passed already. The answer is as walk's.
 fn rings(
@@ -150,4 +152,14 @@ pub fn sound(words: &[u16]) -> bool
         return false;
     }
     heads::runs(area, records)
+}
+
+// The counts of a sound area, with which each call begins; an unsound one is refused.
+pub fn shape_of(area: &[u16]) -> Result<Shape, Refusal>
+    ensures { Opens area.now result }
+{
+    if !sound(area) {
+        return Err(Refusal::Unsound);
+    }
+    Ok(area::shape_of(area))
 }

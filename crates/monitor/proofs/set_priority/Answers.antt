@@ -1,16 +1,13 @@
 -- `monitor::set_priority` meets its contract: an unsound area is refused, and on a sound one the call does its rule. Assumes nothing.
-use Rattle.sound.proofs.Asked.{counts_there, stands_at}
+use Rattle.sound.proofs.Asked.{stands_at}
 use Rattle.monitor.proofs.Performs.{performs_not, performs_at}
 use Rattle.monitor.proofs.set_priority.Goals as goal
 
-pub returns-then-not-sound : goal.returns-then-not-sound
-returns-then-not-sound c = performs_not c.sound.ensures c.if-not-sound.true-raw c.unsound.ensures
-
-pub shape_of-shape-requires : goal.shape_of-shape-requires
-shape_of-shape-requires c = counts_there c.sound.ensures c.if-not-sound.false-raw
+pub returns-in_err-shape : goal.returns-in_err-shape
+returns-in_err-shape c = performs_not c.in_err-shape.ensures c.from_residual.result c.from_residual.ensures.1
 
 pub set_priority-requires : goal.set_priority-requires
-set_priority-requires c = stands_at c.sound.ensures c.if-not-sound.false-raw c.shape_of-shape.ensures
+set_priority-requires c = stands_at c.in_ok-shape.ensures
 
 pub returns : goal.returns
-returns c = performs_at c.sound.ensures c.if-not-sound.false-raw c.shape_of-shape.ensures c.set_priority.ensures
+returns c = performs_at c.in_ok-shape.ensures c.set_priority.ensures
