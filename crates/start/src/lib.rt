@@ -4,16 +4,17 @@
 ghost use Rattle.std.specs.Prelude.{◌≡◌, true, [], ℕ, ◌<◌, ◌≤◌, length, get_or, drop};
 ghost use Rattle.model.specs.declared.Shape.{Shape};
 ghost use Rattle.model.specs.Rules.{counted, any_above, start_code};
+ghost use Rattle.model.specs.Refusals.{code_in, told};
 ghost use Rattle.area.specs.Layout.{size, Image, Stored};
 ghost use Rattle.area.specs.State.{laid};
 ghost use Rattle.area.specs.Holds.{Becomes};
 ghost use Rattle.start.specs.Start.{Starts, lined};
 
 use area::layout;
-use model::{Answer, Shape};
+use model::{Answer, Refusal, Shape};
 use outcomes::answers;
 
-// ---- codes
+// ---- tests
 
 // Whether the counts are in range.
 fn in_range(shape: Shape) -> bool
@@ -55,20 +56,20 @@ fn one_above(priorities: &[u8]) -> bool
     false
 }
 
-// The code that the counts and the priorities alone ask for, 0 if none.
-fn code_of(shape: Shape, priorities: &[u8]) -> u16
-    ensures { result ≡ start_code shape priorities.now }
+// The tests of the counts and the priorities alone.
+fn tested(shape: Shape, priorities: &[u8]) -> Result<(), Refusal>
+    ensures { code_in result ≡ start_code shape priorities.now }
 {
     if !in_range(shape) {
-        return 2;
+        return Err(Refusal::BadCount);
     }
     if priorities.len() != shape.processes as usize {
-        return 3;
+        return Err(Refusal::BadList);
     }
     if one_above(priorities) {
-        return 4;
+        return Err(Refusal::BadPriority);
     }
-    0
+    Ok(())
 }
 
 // ---- words
@@ -109,17 +110,14 @@ fn line_up(area: &mut [u16], shape: Shape, priorities: &[u8])
 
 // ---- Start
 
-pub fn start(area: &mut [u16], shape: Shape, priorities: &[u8]) -> Answer
-    ensures { Starts shape priorities.now area.old area.new result }
+pub fn start(area: &mut [u16], shape: Shape, priorities: &[u8]) -> Result<Answer, Refusal>
+    ensures { Starts shape priorities.now area.old area.new (told result) }
 {
-    let code = code_of(shape, priorities);
-    if code != 0 {
-        return answers::refusal(code);
-    }
+    tested(shape, priorities)?;
     if area.len() < area::size_of(shape) {
-        return answers::refusal(5);
+        return Err(Refusal::Short);
     }
     count_out(area, shape);
     line_up(area, shape, priorities);
-    answers::finish(area, shape, 0, 0, 0)
+    Ok(answers::finish(area, shape, 0, 0, 0))
 }

@@ -1,10 +1,10 @@
--- `start::code_of` meets its contract: the tests in their order. Assumes nothing.
+-- `start::tested` meets its contract: the tests in their order. Assumes nothing.
 use mathlib.Core.Path.{◌≡◌, sym, ◌∙◌}
 use mathlib.Core.Bool.{true}
 use Rattle.model.specs.Rules.{counted}
 use Rattle.model.proofs.Tests.{not_true, not_false}
 use Rattle.start.proofs.Started.{code_counts, code_list, code_priority, code_none}
-use Rattle.start.proofs.code_of.Goals as goal
+use Rattle.start.proofs.tested.Goals as goal
 
 pub returns-then-not-in_range : goal.returns-then-not-in_range
 returns-then-not-in_range c = code_counts c.args.shape c.args.priorities.now (sym c.in_range.ensures ∙ not_true c.in_range.result c.if-not-in_range.true-raw)
