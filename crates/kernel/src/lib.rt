@@ -1,20 +1,21 @@
-// The C boundary: each call on an area of any words and any numbers, its answer packed in one number. Thin over monitor. Assumes nothing.
+// What C calls, by name and contract; kernel_c exports it: each call on an area of any words and any numbers, its answer packed in one number. Thin over monitor. Assumes nothing.
 #![tactic(auto)]
 
 ghost use Rattle.std.specs.Prelude.{ℕ, List};
 ghost use Rattle.model.specs.declared.Call.{Call};
 ghost use Rattle.model.specs.declared.Call.TheVariants.{Enter, Exit, Wait, Notify, Broadcast, Naked, Requeue, SetPriority, Tick, Abort, SetAbortable, Reenter};
 ghost use Rattle.model.specs.Machine.{fields_of};
+ghost use Rattle.model.specs.Refusals.{told};
 ghost use Rattle.monitor.specs.Calls.{Performs};
 ghost use Rattle.wire.specs.Wire.{Carries};
 ghost use Rattle.kernel.specs.Exports.{Crosses, Begins, Judges, Writes, Dues, Pages, Nears};
 
-use model::{Answer, Priority, Process, Shape, Ticks};
+use model::{Answer, Priority, Process, Refusal, Shape, Ticks};
+use outcomes::answers;
 
 // ---- Start and Sound
 
-#[unsafe(no_mangle)]
-pub extern "C" fn kernel_start(
+pub fn kernel_start(
     area: &mut [u16],
     processes: u16,
     locks: u16,
@@ -30,11 +31,10 @@ pub extern "C" fn kernel_start(
         conditions: conditions,
         parks: parks,
     };
-    wire::pack(start::start(area, shape, priorities))
+    wire::pack(answers::told(start::start(area, shape, priorities)))
 }
 
-#[unsafe(no_mangle)]
-pub extern "C" fn kernel_sound(area: &[u16]) -> u64
+pub fn kernel_sound(area: &[u16]) -> u64
     ensures { Judges area.now result }
 {
     if sound::sound(area) {
@@ -45,58 +45,51 @@ pub extern "C" fn kernel_sound(area: &[u16]) -> u64
 
 // ---- the twelve calls
 
-// A call's answer as one number, out of which it comes back.
-fn cross(a: Answer) -> u64
-    requires { (c : Call) × (old : List ℕ) × (new : List ℕ) × Performs c old new a }
-    ensures { Carries 10 result (fields_of a) }
+// What is told of a call, as one number, out of which it comes back.
+fn cross(outcome: Result<Answer, Refusal>) -> u64
+    requires { (c : Call) × (old : List ℕ) × (new : List ℕ) × Performs c old new (told outcome) }
+    ensures { Carries 10 result (fields_of (told outcome)) }
 {
-    wire::pack(a)
+    wire::pack(answers::told(outcome))
 }
 
-#[unsafe(no_mangle)]
-pub extern "C" fn kernel_enter(area: &mut [u16], lock: u16) -> u64
+pub fn kernel_enter(area: &mut [u16], lock: u16) -> u64
     ensures { Crosses (Enter lock) area.old area.new result }
 {
     cross(monitor::enter(area, lock))
 }
 
-#[unsafe(no_mangle)]
-pub extern "C" fn kernel_exit(area: &mut [u16], lock: u16) -> u64
+pub fn kernel_exit(area: &mut [u16], lock: u16) -> u64
     ensures { Crosses (Exit lock) area.old area.new result }
 {
     cross(monitor::exit(area, lock))
 }
 
-#[unsafe(no_mangle)]
-pub extern "C" fn kernel_wait(area: &mut [u16], lock: u16, condition: u16, ticks: u16) -> u64
+pub fn kernel_wait(area: &mut [u16], lock: u16, condition: u16, ticks: u16) -> u64
     ensures { Crosses (Wait lock condition (record { 0 = ticks })) area.old area.new result }
 {
     cross(monitor::wait(area, lock, condition, Ticks(ticks)))
 }
 
-#[unsafe(no_mangle)]
-pub extern "C" fn kernel_notify(area: &mut [u16], condition: u16) -> u64
+pub fn kernel_notify(area: &mut [u16], condition: u16) -> u64
     ensures { Crosses (Notify condition) area.old area.new result }
 {
     cross(monitor::notify(area, condition))
 }
 
-#[unsafe(no_mangle)]
-pub extern "C" fn kernel_broadcast(area: &mut [u16], condition: u16) -> u64
+pub fn kernel_broadcast(area: &mut [u16], condition: u16) -> u64
     ensures { Crosses (Broadcast condition) area.old area.new result }
 {
     cross(monitor::broadcast(area, condition))
 }
 
-#[unsafe(no_mangle)]
-pub extern "C" fn kernel_naked(area: &mut [u16], condition: u16) -> u64
+pub fn kernel_naked(area: &mut [u16], condition: u16) -> u64
     ensures { Crosses (Naked condition) area.old area.new result }
 {
     cross(monitor::naked(area, condition))
 }
 
-#[unsafe(no_mangle)]
-pub extern "C" fn kernel_requeue(
+pub fn kernel_requeue(
     area: &mut [u16],
     source: u16,
     destination: u16,
@@ -107,36 +100,31 @@ pub extern "C" fn kernel_requeue(
     cross(monitor::requeue(area, source, destination, Process(process)))
 }
 
-#[unsafe(no_mangle)]
-pub extern "C" fn kernel_set_priority(area: &mut [u16], priority: u16) -> u64
+pub fn kernel_set_priority(area: &mut [u16], priority: u16) -> u64
     ensures { Crosses (SetPriority (record { 0 = priority })) area.old area.new result }
 {
     cross(monitor::set_priority(area, Priority(priority)))
 }
 
-#[unsafe(no_mangle)]
-pub extern "C" fn kernel_tick(area: &mut [u16]) -> u64
+pub fn kernel_tick(area: &mut [u16]) -> u64
     ensures { Crosses Tick area.old area.new result }
 {
     cross(monitor::tick(area))
 }
 
-#[unsafe(no_mangle)]
-pub extern "C" fn kernel_abort(area: &mut [u16], process: u16) -> u64
+pub fn kernel_abort(area: &mut [u16], process: u16) -> u64
     ensures { Crosses (Abort (record { 0 = process })) area.old area.new result }
 {
     cross(monitor::abort(area, Process(process)))
 }
 
-#[unsafe(no_mangle)]
-pub extern "C" fn kernel_set_abortable(area: &mut [u16], condition: u16, value: u16) -> u64
+pub fn kernel_set_abortable(area: &mut [u16], condition: u16, value: u16) -> u64
     ensures { Crosses (SetAbortable condition value) area.old area.new result }
 {
     cross(monitor::set_abortable(area, condition, value))
 }
 
-#[unsafe(no_mangle)]
-pub extern "C" fn kernel_reenter(area: &mut [u16], lock: u16, condition: u16) -> u64
+pub fn kernel_reenter(area: &mut [u16], lock: u16, condition: u16) -> u64
     ensures { Crosses (Reenter lock condition) area.old area.new result }
 {
     cross(monitor::reenter(area, lock, condition))
@@ -144,29 +132,25 @@ pub extern "C" fn kernel_reenter(area: &mut [u16], lock: u16, condition: u16) ->
 
 // ---- reads
 
-#[unsafe(no_mangle)]
-pub extern "C" fn kernel_list(area: &[u16], kind: u16, number: u16, buffer: &mut [u16]) -> u64
+pub fn kernel_list(area: &[u16], kind: u16, number: u16, buffer: &mut [u16]) -> u64
     ensures { Writes kind number area.now buffer.old buffer.new result }
 {
-    wire::pack_list(reads::list(area, kind, number, buffer))
+    wire::pack_list(answers::reported(reads::list(area, kind, number, buffer)))
 }
 
-#[unsafe(no_mangle)]
-pub extern "C" fn kernel_due(area: &[u16], ticks: u16, buffer: &mut [u16]) -> u64
+pub fn kernel_due(area: &[u16], ticks: u16, buffer: &mut [u16]) -> u64
     ensures { Dues ticks area.now buffer.old buffer.new result }
 {
-    wire::pack_report(reads::due(area, Ticks(ticks), buffer))
+    wire::pack_report(answers::reported(reads::due(area, Ticks(ticks), buffer)))
 }
 
-#[unsafe(no_mangle)]
-pub extern "C" fn kernel_sheet(area: &[u16], page: &mut [u8]) -> u64
+pub fn kernel_sheet(area: &[u16], page: &mut [u8]) -> u64
     ensures { Pages area.now page.old page.new result }
 {
-    wire::pack_report(reads::sheet(area, page))
+    wire::pack_report(answers::reported(reads::sheet(area, page)))
 }
 
-#[unsafe(no_mangle)]
-pub extern "C" fn kernel_nearest(area: &[u16]) -> u64
+pub fn kernel_nearest(area: &[u16]) -> u64
     ensures { Nears area.now result }
 {
     wire::pack_nearest(reads::nearest(area))

@@ -6,7 +6,7 @@ ghost use Rattle.model.specs.Refusals as refusals;
 ghost use Rattle.area.specs.Holds.{Holds, Held, Gives};
 
 use crate::dispatch;
-use model::{Answer, Refusal, Shape};
+use model::{Answer, Refusal, Report, Shape};
 
 // A refusal: its code, and zeros.
 pub fn refusal(code: u16) -> Answer
@@ -29,6 +29,19 @@ pub fn told(outcome: Result<Answer, Refusal>) -> Answer
     match outcome {
         Ok(answer) => answer,
         Err(why) => refusal(why.code()),
+    }
+}
+
+// What is told of a read into a buffer: how much it wrote there or, where it is refused, the code and 0.
+pub fn reported(outcome: Result<u16, Refusal>) -> Report
+    ensures { result ≡ refusals.reported outcome }
+{
+    match outcome {
+        Ok(count) => Report { code: 0, count },
+        Err(why) => Report {
+            code: why.code(),
+            count: 0,
+        },
     }
 }
 
