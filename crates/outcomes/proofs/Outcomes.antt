@@ -1,6 +1,7 @@
 -- What a call comes to, by its tests: a refusal leaves the area, and an accepted call makes its changes and moves and then dispatches.
 -- Assumes nothing.
 use Prim.Native.Nat.{ℕ}
+use Rattle.std.specs.Prelude.{Result, Ok, Err, IsErrAnd}
 use native.Mathlib.Omega.{arith}
 use mathlib.Core.Path.{◌≡◌, refl, sym, ap, ◌∙◌}
 use mathlib.Core.Logic.{◌≢◌}
@@ -17,7 +18,7 @@ use Rattle.model.specs.Rules.{Effect, when, choose, decide}
 use Rattle.model.specs.Rules.Effect.{refuse, accept}
 use Rattle.model.specs.declared.Refusal.{Refusal}
 use Rattle.model.specs.declared.Refusal.TheVariants.{Unsound, BadCount, BadList, BadPriority, Short, Nobody, NoSuch, Held, NotHeld, NotThere}
-use Rattle.model.specs.Refusals.{code_of}
+use Rattle.model.specs.Refusals.{code_of, told}
 use Rattle.model.specs.Machine.{State, model, moves, arrivals, ahead, finish, step, refusal}
 use Rattle.model.proofs.Tests.{eqb_yes, eqb_no, not_true, or_split}
 use Rattle.model.proofs.Places.{ahead_ready}
@@ -57,6 +58,11 @@ refusing NoSuch = omega arith
 refusing Held = omega arith
 refusing NotHeld = omega arith
 refusing NotThere = omega arith
+
+-- what is told of a call that passes a refusal on by `?`
+pub passed_on : (r : Result Answer Refusal) (why : Refusal) → IsErrAnd r (λ x. x ≡ why) → told r ≡ refusal (code_of why)
+passed_on (Ok a) why h = absurd h
+passed_on (Err x) why h = ap {A = Refusal} (λ y. refusal (code_of y)) h
 
 -- tests that give the code k: where it is not 0 they refuse by it, and where it is 0 they let the rule go on
 pub record Tested (k : ℕ) (tests : Effect → Effect) : Type 0 where
