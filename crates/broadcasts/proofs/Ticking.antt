@@ -1,6 +1,11 @@
 -- Tick: those whose timer rings leave their conditions, and then wake in process order. Who rings waits, so each condition is without them when
 -- it is swept, no other queue has one of them, and they are those of the rule. Assumes nothing.
-use Rattle.std.proofs.Common.{◌≡◌, ℕ, zero, suc, ◌+◌, ◌-◌, ◌%◌, ◌<◌, ◌≤◌, Bool, true, false, not, ◌≢◌, List, [], ◌∷◌, ◌++◌, length, get_or, sym, refl, ap, ◌∙◌, subst, true≢false, add-one, arith}
+use Rattle.std.proofs.Common.{◌≡◌, ℕ, zero, suc, ◌+◌, ◌-◌, ◌%◌, ◌<◌, ◌≤◌, Bool, true, false, not, ◌≢◌, List, [], ◌∷◌, ◌++◌, Some, None, length, get_or, drop, position, nat_le, slice_range, length-drop, sym, refl, ap, ◌∙◌, subst, true≢false, add-one, arith}
+use Rattle.std.specs.List.{position_or_len}
+use Rattle.std.proofs.lemmas.List.{get_or-take, get_or-drop, length-take-le}
+use Rattle.std.proofs.lemmas.List.Sums.{prefix_len_passes}
+use Rattle.std.proofs.lemmas.List.Quantifiers.{position-Some}
+use Rattle.std.proofs.lemmas.Bool.Decides.{nat_tests}
 use native.Mathlib.Decide.{ℕ_discrete}
 use borrow.Rule.Slice.PartMut.{mid_of}
 use Rattle.model.specs.declared.Shape.{Shape}
@@ -88,9 +93,29 @@ condition_here n i a b = (bounds_inside n.conditions (i - conditions_at n + 1) (
 
 -- ---- conditions that nobody waits on
 
--- one word more that is below 8
-pub low_next : (ws : List ℕ) (from i : ℕ) → ((k : ℕ) → from ≤ k → k < i → get_or ws k 0 < 8) → get_or ws i 0 < 8 → (k : ℕ) → from ≤ k → k < i + 1 → get_or ws k 0 < 8
-low_next ws from i low here k a b = elim (ℕ_discrete k i) [ yes e ↦ rw e here | no e ↦ low k a (omega arith) ]
+-- where no word is 8 or more
+none_waits : (xs : List ℕ) (k : ℕ) → None ≡ position (nat_le 8) xs → k < length xs → nat_le 8 (get_or xs k 0) ≡ false
+none_waits xs k e h =
+    let all : length xs ≤ position_or_len (nat_le 8) xs = grind (arith, nat_tests) in
+    let p = prefix_len_passes (λ x. not (nat_le 8 x)) xs k 0 (omega arith) in
+    grind (arith, nat_tests)
+
+-- the words from `from` on that are passed, to the first that is 8 or more, or to the end
+module _ (ws : List ℕ) (from end : ℕ) (fits : end ≤ length ws) where
+  low : (i : ℕ) → from ≤ i → i < end → nat_le 8 (get_or (slice_range ws from end) (i - from) 0) ≡ false → get_or ws i 0 < 8
+  low i a b h =
+      let e : from + (i - from) ≡ i = omega arith in
+      let q : nat_le 8 (get_or ws i 0) ≡ false = rw (get_or-take (end - from) (drop from ws) (i - from) 0 (omega arith), get_or-drop from ws (i - from) 0, e) at h in
+      grind (arith, nat_tests)
+
+  pub waited_some : {k : ℕ} → Some k ≡ position (nat_le 8) (slice_range ws from end) → (from + k < end) × ((i : ℕ) → from ≤ i → i < from + k → get_or ws i 0 < 8)
+  waited_some {k} e =
+      let p = position-Some (nat_le 8) (slice_range ws from end) k 0 (sym e) in
+      let h : from + k < end = omega (arith, length-take-le {A = ℕ}, length-drop {A = ℕ}, p.0) in
+      (h, λ i a b. low i a (omega arith) (p.2 (i - from) (omega arith)))
+
+  pub waited_none : None ≡ position (nat_le 8) (slice_range ws from end) → (i : ℕ) → from ≤ i → i < end → get_or ws i 0 < 8
+  waited_none e i a b = low i a b (none_waits (slice_range ws from end) (i - from) e (omega (arith, length-take-le {A = ℕ}, length-drop {A = ℕ})))
 
 -- conditions 1 to k are swept, and the words of those behind, to where j stands, are below 8: they count as swept too
 pub sweep_skips : {n : Shape} {old new : List ℕ} {f : Fields} (qs : Queue → List ℕ) (time k from j : ℕ) → from ≡ conditions_at n + k → from ≤ j → j ≤ records_at n → ((i : ℕ) → from ≤ i → i < j → get_or new i 0 < 8)
@@ -189,22 +214,30 @@ none_ring now H e = (rw e, rw e (becomes_none H))
 
 -- ---- whether somebody rings
 
+-- of those below p nobody does, and not p
+next_none : (f : Fields) (time p : ℕ) → 1 ≤ p → rings f time p ≡ false → ringing f time (p - 1) ≡ [] → ringing f time (p + 1 - 1) ≡ []
+next_none f time zero some own e = absurd (omega arith)
+next_none f time (suc k) some own e = rw (let a : suc k + 1 - 1 ≡ suc k = omega arith in a) (skips (up_to k) ∙ rw (let a : suc k - 1 ≡ k = omega arith in a) at e)
+  where
+    skips : (xs : List ℕ) → filter (rings f time) (xs ++ (suc k ∷ [])) ≡ filter (rings f time) xs
+    skips [] = rw own
+    skips (y ∷ ys) = rw (skips ys)
+
+-- all of them
+pub none_all : (f : Fields) (time k m : ℕ) → k ≡ m → ringing f time k ≡ [] → ringing f time m ≡ []
+none_all f time k m e h = subst (λ (i : ℕ). ringing f time i ≡ []) e h
+
 -- a process stands in the records as they are lent, and rings there as it does in the state
 module _ {n : Shape} {ws : List ℕ} {s : State model} (H : Holds n ws s) {a : ℕ} (p : ℕ) (at_records : a ≡ records_at n) (i : inside n.processes p ≡ true) where
   pub held_stands : Stands (mid_of a (length ws - a) ws) p
   held_stands = subst (λ (r : List ℕ). Stands r p) (sym (lent n ws at_records)) (records_stand n ws (laid n s) H.image p i)
 
-  pub held_rings : (time : ℕ) → link.rings (mid_of a (length ws - a) ws) time p ≡ rings s.fields time p
+  held_rings : (time : ℕ) → link.rings (mid_of a (length ws - a) ws) time p ≡ rings s.fields time p
   held_rings time = ap (λ (r : List ℕ). link.rings r time p) (lent n ws at_records) ∙ rings_said n ws (laid n s) H.image p i time
 
--- of those below p nobody does, and not p
-pub none_next : (f : Fields) (time p : ℕ) → 1 ≤ p → rings f time p ≡ false → ringing f time (p - 1) ≡ [] → ringing f time (p + 1 - 1) ≡ []
-none_next f time zero some own e = absurd (omega arith)
-none_next f time (suc k) some own e = rw (let a : suc k + 1 - 1 ≡ suc k = omega arith in a) (skips (up_to k) ∙ rw (let a : suc k - 1 ≡ k = omega arith in a) at e)
-  where
-    skips : (xs : List ℕ) → filter (rings f time) (xs ++ (suc k ∷ [])) ≡ filter (rings f time) xs
-    skips [] = rw own
-    skips (y ∷ ys) = rw (skips ys)
+  -- nor does anybody of those to p where none below it does
+  pub none_next : (time : ℕ) → link.rings (mid_of a (length ws - a) ws) time p ≡ false → ringing s.fields time (p - 1) ≡ [] → ringing s.fields time (p + 1 - 1) ≡ []
+  none_next time own e = next_none s.fields time p (inside_bounds n.processes p i).0 (sym (held_rings time) ∙ own) e
 
 -- ---- the call
 

@@ -1,5 +1,5 @@
 // The clock: Tick. Assumes nothing.
-ghost use Rattle.std.specs.Prelude.{◌≡◌, ℕ, ◌<◌, ◌≤◌, true, [], length, slice_index};
+ghost use Rattle.std.specs.Prelude.{◌≡◌, true, [], length, nat_le, position};
 ghost use Rattle.model.specs.declared.Call.TheVariants.{Tick};
 ghost use Rattle.model.specs.Rules.{due};
 ghost use Rattle.model.specs.Machine.{State, model};
@@ -19,27 +19,19 @@ fn nobody_due(area: &[u16], shape: Shape, time: u16) -> bool
     ensures { (s : State model) → Holds shape area.now s → result ≡ true → due shape s.fields time ≡ [] }
 {
     let at = area::records_at(shape);
-    let processes = shape.processes;
-    let mut p: u16 = 1;
-    while p <= processes {
+    for p in 1..=shape.processes {
         if links::rings(&area[at..], p, time) {
             return false;
         }
-        p += 1;
     }
     true
 }
 
-// Where the first word from `from` on stands that says that somebody waits, `end` if none before it does. Most conditions are empty.
-fn next_waited(area: &[u16], from: usize, end: usize) -> usize
-    requires { (from ≤ end) × (end ≤ length area.now) }
-    ensures { (from ≤ result) × (result ≤ end) × ((k : ℕ) → from ≤ k → k < result → slice_index area.now k < 8) }
+// Where the first of these words stands that says that somebody waits. Most conditions are empty.
+fn next_waited(words: &[u16]) -> Option<usize>
+    ensures { result ≡ position (nat_le 8) words.now }
 {
-    let mut i = from;
-    while i < end && area[i] < links::NUMBER {
-        i += 1;
-    }
-    i
+    words.iter().position(|word| links::NUMBER <= *word)
 }
 
 // Those whose timer rings at this time leave their conditions.
@@ -48,10 +40,10 @@ fn sweep_all(area: &mut [u16], shape: Shape, time: u16)
     ensures { (s : State model) → Holds shape area.old s → Loose shape area.old area.new s.fields (staying s.fields time shape.conditions s.queues) }
 {
     let end = area::records_at(shape);
-    let mut i = next_waited(area, area::conditions_at(shape), end);
-    while i < end {
-        crowds::sweep(area, shape, i, time);
-        i = next_waited(area, i + 1, end);
+    let mut from = area::conditions_at(shape);
+    while let Some(ahead) = next_waited(&area[from..end]) {
+        crowds::sweep(area, shape, from + ahead, time);
+        from += ahead + 1;
     }
 }
 

@@ -5,13 +5,14 @@ ghost use Rattle.std.specs.Prelude.{◌≡◌, ℕ, true, length};
 ghost use Rattle.model.specs.declared.Call.TheVariants.{Broadcast};
 ghost use Rattle.model.specs.Queue.{Queue, inside};
 ghost use Rattle.model.specs.Machine.{State, model};
+ghost use Rattle.model.specs.Refusals.{told};
 ghost use Rattle.model.specs.Valid.{Valid};
 ghost use Rattle.area.specs.Layout.{at};
 ghost use Rattle.area.specs.Layout.Slot.{Tail};
 ghost use Rattle.area.specs.Holds.{Holds, Held, Becomes};
 ghost use Rattle.area.specs.Calls.{Stands, Does, woken};
 
-use model::{Answer, Shape};
+use model::{Answer, Refusal, Shape};
 use outcomes::{answers, codes};
 
 pub mod clock;
@@ -29,16 +30,13 @@ fn wake_all(area: &mut [u16], shape: Shape, from: usize) -> u16
     crowds::wake_chain(area, shape, first, last)
 }
 
-pub fn broadcast(area: &mut [u16], shape: Shape, condition: u16) -> Answer
+pub fn broadcast(area: &mut [u16], shape: Shape, condition: u16) -> Result<Answer, Refusal>
     requires { Stands shape area.old }
-    ensures { (s : State model) → Holds shape area.old s → Valid shape s → Does (Broadcast condition) shape area.old area.new s result }
+    ensures { (s : State model) → Holds shape area.old s → Valid shape s → Does (Broadcast condition) shape area.old area.new s (told result) }
 {
     let running = area::running_of(area);
-    let code = codes::calling(running, shape.conditions, condition);
-    if code != 0 {
-        return answers::refusal(code);
-    }
+    codes::calling(running, shape.conditions, condition)?;
     let from = area::condition_at(shape, condition);
     let all = wake_all(area, shape, from);
-    answers::finish(area, shape, 0, all, 0)
+    Ok(answers::finish(area, shape, 0, all, 0))
 }

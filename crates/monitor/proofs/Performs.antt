@@ -18,7 +18,7 @@ use Rattle.area.specs.Sound.{Sound}
 use Rattle.area.specs.Holds.{Holds, Becomes}
 use Rattle.area.proofs.Whole.{stored_write}
 use Rattle.area.specs.Calls.{Does}
-use Rattle.outcomes.proofs.Outcomes.{early}
+use Rattle.outcomes.proofs.Outcomes.{passed_on}
 use Rattle.sound.proofs.Asked.{own_holds}
 use Rattle.monitor.specs.Calls.{Performs}
 
@@ -33,7 +33,7 @@ performs S d = record { unsound = λ h. absurd (h S); sound = λ z. (d.answer, b
 -- ---- at the places of a call's code, with n the counts of a sound area
 
 pub performs_not : {old : List ℕ} {why : Refusal} → (Sound old → ⊥) × (why ≡ Unsound) → {c : Call} (r : Result Answer Refusal) → IsErrAnd r (λ e. e ≡ why) → Performs c old old (told r)
-performs_not opened r e = record { unsound = λ z. (early _ r e ∙ ap (λ w. refusal (code_of w)) opened.1, refl); sound = λ S. absurd (opened.0 S) }
+performs_not opened r e = record { unsound = λ z. (passed_on r _ e ∙ ap (λ w. refusal (code_of w)) opened.1, refl); sound = λ S. absurd (opened.0 S) }
 
 pub performs_at : {old : List ℕ} {n : Shape} → Sound old × (n ≡ shape_of old) → {c : Call} {new : List ℕ} {a : Answer} → ((s : State model) → Holds n old s → Valid n s → Does c n old new s a) → Performs c old new a
 performs_at {old} opened d = let S = opened.0 in performs S ((rw opened.1 at d) (state_of old) (own_holds S) S.valid)

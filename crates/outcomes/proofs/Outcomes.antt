@@ -1,13 +1,13 @@
 -- What a call comes to, by its tests: a refusal leaves the area, and an accepted call makes its changes and moves and then dispatches.
 -- Assumes nothing.
 use Prim.Native.Nat.{ℕ}
+use Rattle.std.specs.Prelude.{Result, Ok, Err, IsErrAnd}
 use native.Mathlib.Omega.{arith}
 use mathlib.Core.Path.{◌≡◌, refl, sym, ap, ◌∙◌}
 use mathlib.Core.Logic.{◌≢◌}
 use mathlib.Core.Bool.{Bool, true, false, not, ◌||◌, cond, true≢false}
 use mathlib.Core.List.{List}
 use lib.Dec.{eqb}
-use Rattle.std.proofs.Common.{Result, Ok, Err, IsErrAnd}
 use Rattle.model.specs.declared.Shape.{Shape}
 use Rattle.model.specs.declared.Call.{Call}
 use Rattle.model.specs.declared.Answer.{Answer}
@@ -59,10 +59,10 @@ refusing Held = omega arith
 refusing NotHeld = omega arith
 refusing NotThere = omega arith
 
--- what is told where `?` hands a refusal on
-pub early : (why : Refusal) (r : Result Answer Refusal) → IsErrAnd r (λ e. e ≡ why) → told r ≡ refusal (code_of why)
-early why (Ok a) h = absurd h
-early why (Err e) h = rw h refl
+-- what is told of a call that passes a refusal on by `?`
+pub passed_on : (r : Result Answer Refusal) (why : Refusal) → IsErrAnd r (λ x. x ≡ why) → told r ≡ refusal (code_of why)
+passed_on (Ok a) why h = absurd h
+passed_on (Err x) why h = ap {A = Refusal} (λ y. refusal (code_of y)) h
 
 -- tests that give the code k: where it is not 0 they refuse by it, and where it is 0 they let the rule go on
 pub record Tested (k : ℕ) (tests : Effect → Effect) : Type 0 where

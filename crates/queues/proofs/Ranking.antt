@@ -1,7 +1,7 @@
 -- What SetPriority comes to at each of its returns, by the numbers that the code reads: its rule, test by test. Assumes nothing.
 use Prim.Native.Nat.{ℕ, ◌≤◌, ◌<◌}
 use native.Mathlib.Omega.{arith}
-use mathlib.Core.Path.{◌≡◌, sym, ap, ◌∙◌}
+use mathlib.Core.Path.{◌≡◌, refl, sym, ap, ◌∙◌}
 use mathlib.Core.Logic.{◌≢◌}
 use mathlib.Core.Bool.{false}
 use mathlib.Core.List.{List, [], ◌∷◌}
@@ -25,17 +25,17 @@ use Rattle.moves.proofs.Shared.{runner_stands}
 
 -- r is the running process
 module _ {n : Shape} {old : List ℕ} {s : State model} (H : Holds n old s) (v : Priority) {r : ℕ} (er : r ≡ s.fields running) where
-  pub set_priority_nobody : {a : Answer} → r ≡ 0 → a ≡ refusal 6 → Does (SetPriority v) n old old s a
+  pub set_priority_nobody : r ≡ 0 → Does (SetPriority v) n old old s (refusal 6)
   unfolding decide
-  set_priority_nobody z = refuses H (SetPriority v) 6 (when_yes 6 _ (eqb_yes (s.fields running) 0 (sym er ∙ z)))
+  set_priority_nobody z = refuses H (SetPriority v) 6 (when_yes 6 _ (eqb_yes (s.fields running) 0 (sym er ∙ z))) refl
 
   module _ (z : r ≢ 0) where
     someone : eqb (s.fields running) 0 ≡ false
     someone = eqb_no (s.fields running) 0 (λ e. z (er ∙ e))
 
-    pub set_priority_high : {a : Answer} → 7 < v.0 → a ≡ refusal 4 → Does (SetPriority v) n old old s a
+    pub set_priority_high : 7 < v.0 → Does (SetPriority v) n old old s (refusal 4)
     unfolding decide
-    set_priority_high h = refuses H (SetPriority v) 4 (when_no 6 _ someone ∙ when_yes 4 _ (leb_yes 8 v.0 h))
+    set_priority_high h = refuses H (SetPriority v) 4 (when_no 6 _ someone ∙ when_yes 4 _ (leb_yes 8 v.0 h)) refl
 
     -- who runs stands in ready, and does not come into it
     pub set_priority_low : {mid new : List ℕ} {a : Answer} → Valid n s → v.0 ≤ 7 → Becomes n old mid (sent r ready (with (priority r) v.0 s))

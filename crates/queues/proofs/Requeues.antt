@@ -1,19 +1,19 @@
 -- Requeue: what it comes to by its tests, and who arrives in ready: a process from a park, since it stands in no other queue. Assumes nothing.
 use Prim.Native.Nat.{ℕ, suc, ◌≤◌, ◌<◌}
 use native.Mathlib.Omega.{arith}
-use mathlib.Core.Path.{◌≡◌, sym, ap, ◌∙◌}
-use mathlib.Core.Bool.{true, false, not, ◌||◌, or-true, and-false}
-use mathlib.Core.Logic.{◌≢◌, ◌⊎◌}
+use mathlib.Core.Path.{◌≡◌, refl, sym, ap, ◌∙◌}
+use mathlib.Core.Bool.{Bool, true, false, not, ◌||◌, or-true}
+use mathlib.Core.Logic.{◌≢◌, ◌⊎◌, inl, inr}
 use mathlib.Core.List.{List, [], ◌∷◌}
 use lib.Dec.{ltb}
 use Rattle.model.specs.declared.Shape.{Shape}
 use Rattle.model.specs.declared.Process.{Process}
 use Rattle.model.specs.declared.Answer.{Answer}
 use Rattle.model.specs.declared.Call.TheVariants.{Requeue}
-use Rattle.model.specs.Queue.{Queue, outside, exists, bit, member, is_condition}
+use Rattle.model.specs.Queue.{outside, inside, exists, bit, member, is_condition}
 use Rattle.model.specs.Queue.Queue.{ready, park}
 use Rattle.model.specs.Field.{priorities}
-use Rattle.model.specs.Rules.{ready_or_park, decide}
+use Rattle.model.specs.Rules.{ready_or_park, when, decide}
 use Rattle.model.specs.Machine.{State, model, moves, arrivals, finish, refusal}
 use Rattle.model.proofs.Tests.{holds, fails, EqCase, eqb_case, eqb_yes, eqb_no, leb_yes, leb_no, bounds_inside}
 use Rattle.model.proofs.Places.{ahead_park}
@@ -21,10 +21,10 @@ use Rattle.model.proofs.Loops.{elsewhere}
 use Rattle.area.specs.Layout.{at}
 use Rattle.area.specs.Layout.Slot.{Tail}
 use Rattle.area.specs.Holds.{Holds, Becomes, Moves, Gives}
-use Rattle.area.specs.Calls.{Does, changed}
-use Rattle.moves.proofs.Numbers.{is_outside, is_inside, not_outside}
+use Rattle.area.specs.Calls.{Does, Missing, changed}
+use Rattle.moves.proofs.Numbers.{not_outside}
 use Rattle.moves.proofs.Shared.{trying}
-use Rattle.outcomes.proofs.Outcomes.{when_yes, when_no, refuses, accepts}
+use Rattle.outcomes.proofs.Outcomes.{when_yes, when_no, Tested, missing_tested, refuses, refuses_by, accepts}
 
 -- ---- ready and the parks
 
@@ -49,20 +49,8 @@ no_condition k = go (eqb_case k 0)
     go (fails e z) = rw z
 
 -- a process on its way from one of them to another, where it may stand
-abbrev pub between : {n : Shape} {ws : List ℕ} {s : State model} {from to p : ℕ} (a b : ℕ) → Holds n ws s → a ≤ n.parks → b ≤ n.parks → from ≡ at n (Tail (ready_or_park a)) → to ≡ at n (Tail (ready_or_park b)) → p ≢ 0 → p ≤ n.processes → Moves n ws from to p 0
-between {n} {p = p} a b H x y here there z w = trying H (ready_or_park a) (ready_or_park b) (given n a x) (given n b y) here there (is_inside n.processes p z w) (no_condition b)
-
--- ---- who arrives
-
-module _ (b p : ℕ) (qs : Queue → List ℕ) where
-  pub from_ready : (a : ℕ) → a ≡ 0 → member p (qs (ready_or_park a)) ≡ true → 0 ≡ arrivals (qs ready) ((p, ready_or_park b) ∷ [])
-  from_ready a e m = let k : member p (qs ready) ≡ true = rw (ready_there a e) at m in rw (k, and-false)
-
-  pub into_ready : member p (qs ready) ≡ false → b ≡ 0 → 1 ≡ arrivals (qs ready) ((p, ready_or_park b) ∷ [])
-  into_ready k e = rw (k, ready_there b e)
-
-  pub into_park : b ≢ 0 → 0 ≡ arrivals (qs ready) ((p, ready_or_park b) ∷ [])
-  into_park h = rw (park_there b h)
+abbrev pub between : {n : Shape} {ws : List ℕ} {s : State model} {from to p : ℕ} (a b : ℕ) → Holds n ws s → a ≤ n.parks → b ≤ n.parks → from ≡ at n (Tail (ready_or_park a)) → to ≡ at n (Tail (ready_or_park b)) → inside n.processes p ≡ true → Moves n ws from to p 0
+between {n} a b H x y here there i = trying H (ready_or_park a) (ready_or_park b) (given n a x) (given n b y) here there i (no_condition b)
 
 -- who stands in a park does not stand in ready
 pub not_ready : {n : Shape} {ws : List ℕ} {s : State model} → Holds n ws s → (a p : ℕ) → member p (s.queues (ready_or_park a)) ≡ true → a ≢ 0 → member p (s.queues ready) ≡ false
@@ -73,34 +61,39 @@ not_ready {n} {ws} {s} H a p m h = elsewhere n.processes s.queues H.placed.place
 
 -- ---- the call
 
--- its first test, by what fails
-pub data Wrong (n : Shape) (a b p : ℕ) : Type 0 where
-  source : n.parks < a → Wrong n a b p
-  destination : n.parks < b → Wrong n a b p
-  process : (p ≡ 0) ⊎ (n.processes < p) → Wrong n a b p
+-- a park that is not there
+no_park : (n : Shape) (a b : ℕ) (o : Bool) → (n.parks < a) ⊎ ((a ≤ n.parks) × (n.parks < b)) → ltb n.parks a || ltb n.parks b || o ≡ true
+no_park n a b o (inl h) = rw (leb_yes (suc n.parks) a (omega arith))
+no_park n a b o (inr h) = rw (leb_yes (suc n.parks) b (omega arith), or-true)
 
-module _ (n : Shape) (a b p : ℕ) where
-  wrong : Wrong n a b p → ltb n.parks a || ltb n.parks b || outside n.processes p ≡ true
-  wrong (source h) = rw (leb_yes (suc n.parks) a (omega arith))
-  wrong (destination h) = rw (leb_yes (suc n.parks) b (omega arith), or-true)
-  wrong (process o) = rw (is_outside n.processes p o, or-true)
-
-  right : a ≤ n.parks → b ≤ n.parks → p ≢ 0 → p ≤ n.processes → ltb n.parks a || ltb n.parks b || outside n.processes p ≡ false
-  right x y z w = rw (leb_no (suc n.parks) a (omega arith), leb_no (suc n.parks) b (omega arith)) (not_outside n.processes p (is_inside n.processes p z w))
-
-module _ {n : Shape} {old : List ℕ} {s : State model} (H : Holds n old s) (a b : ℕ) (p : Process) {r : Answer} where
-  pub requeue_none : Wrong n a b p.0 → r ≡ refusal 7 → Does (Requeue a b p) n old old s r
+module _ {n : Shape} {old : List ℕ} {s : State model} (H : Holds n old s) (a b : ℕ) (p : Process) where
+  pub requeue_none : (n.parks < a) ⊎ ((a ≤ n.parks) × (n.parks < b)) → Does (Requeue a b p) n old old s (refusal 7)
   unfolding decide
-  requeue_none w e = refuses H (Requeue a b p) 7 (when_yes 7 _ (wrong n a b p.0 w)) e
+  requeue_none w = refuses H (Requeue a b p) 7 (when_yes 7 _ (no_park n a b (outside n.processes p.0) w)) refl
 
-  module _ (x : a ≤ n.parks) (y : b ≤ n.parks) (z : p.0 ≢ 0) (w : p.0 ≤ n.processes) where
-    pub requeue_absent : {new : List ℕ} → new ≡ old → member p.0 (s.queues (ready_or_park a)) ≡ false → r ≡ refusal 10 → Does (Requeue a b p) n old new s r
-    unfolding decide
-    requeue_absent same m e = rw same (refuses H (Requeue a b p) 10 (when_no 7 _ (right n a b p.0 x y z w) ∙ when_yes 10 _ (ap not m)) e)
+  module _ (x : a ≤ n.parks) (y : b ≤ n.parks) where
+    parks_there : (o : Bool) → ltb n.parks a || ltb n.parks b || o ≡ o
+    parks_there o = rw (leb_no (suc n.parks) a (omega arith), leb_no (suc n.parks) b (omega arith))
 
-    pub requeue_moves : {came : ℕ} {mid new : List ℕ} → member p.0 (s.queues (ready_or_park a)) ≡ true → came ≡ arrivals (s.queues ready) ((p.0, ready_or_park b) ∷ [])
-        → Becomes n old mid (changed s.fields ((p.0, ready_or_park b) ∷ []) s)
-        → Gives n mid new r (finish model s.fields (moves model (priorities s.fields) s.queues ((p.0, ready_or_park b) ∷ [])) 0 came 0) → Does (Requeue a b p) n old new s r
+    -- with k the code of the test on the process
+    tested : {k : ℕ} → Missing n.processes p.0 k → Tested k (when (ltb n.parks a || ltb n.parks b || outside n.processes p.0) 7)
+    tested ek = rw (parks_there (outside n.processes p.0)) (missing_tested ek)
+
+    pub requeue_missing : {r : Answer} {k : ℕ} → Missing n.processes p.0 k → k ≢ 0 → r ≡ refusal k → Does (Requeue a b p) n old old s r
     unfolding decide
-    requeue_moves {came} m e b' g =
-        accepts H (Requeue a b p) s.fields ((p.0, ready_or_park b) ∷ []) 0 came 0 (when_no 7 _ (right n a b p.0 x y z w) ∙ when_no 10 _ (ap not m)) e (sym (ahead_park ((changed s.fields ((p.0, ready_or_park b) ∷ []) s).queues) p.0 b)) b' g
+    requeue_missing ek = refuses_by H (Requeue a b p) _ refl (tested ek)
+
+    module _ (i : inside n.processes p.0 ≡ true) where
+      right : ltb n.parks a || ltb n.parks b || outside n.processes p.0 ≡ false
+      right = parks_there (outside n.processes p.0) ∙ not_outside n.processes p.0 i
+
+      pub requeue_absent : {new : List ℕ} → new ≡ old → member p.0 (s.queues (ready_or_park a)) ≡ false → Does (Requeue a b p) n old new s (refusal 10)
+      unfolding decide
+      requeue_absent same m = rw same (refuses H (Requeue a b p) 10 (when_no 7 _ right ∙ when_yes 10 _ (ap not m)) refl)
+
+      pub requeue_moves : {r : Answer} {came : ℕ} {mid new : List ℕ} → member p.0 (s.queues (ready_or_park a)) ≡ true → came ≡ arrivals (s.queues ready) ((p.0, ready_or_park b) ∷ [])
+          → Becomes n old mid (changed s.fields ((p.0, ready_or_park b) ∷ []) s)
+          → Gives n mid new r (finish model s.fields (moves model (priorities s.fields) s.queues ((p.0, ready_or_park b) ∷ [])) 0 came 0) → Does (Requeue a b p) n old new s r
+      unfolding decide
+      requeue_moves {came} m e b' g =
+          accepts H (Requeue a b p) s.fields ((p.0, ready_or_park b) ∷ []) 0 came 0 (when_no 7 _ right ∙ when_no 10 _ (ap not m)) e (sym (ahead_park ((changed s.fields ((p.0, ready_or_park b) ∷ []) s).queues) p.0 b)) b' g

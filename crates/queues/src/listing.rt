@@ -1,28 +1,30 @@
 // One queue written out: List. Assumes nothing.
 ghost use Rattle.model.specs.Machine.{State, model};
+ghost use Rattle.model.specs.Refusals.{reported};
 ghost use Rattle.area.specs.Holds.{Holds, Held};
 ghost use Rattle.queues.specs.Listing.{Lists};
 
-use model::{Report, Shape};
+use model::{Refusal, Shape};
 
 // List of a kind and a number.
-pub fn list(area: &[u16], shape: Shape, kind: u16, number: u16, buffer: &mut [u16]) -> Report
+pub fn list(
+    area: &[u16],
+    shape: Shape,
+    kind: u16,
+    number: u16,
+    buffer: &mut [u16],
+) -> Result<u16, Refusal>
     requires { Held shape area.now }
-    ensures { (s : State model) → Holds shape area.now s → Lists kind number shape s buffer.old buffer.new result }
+    ensures { (s : State model) → Holds shape area.now s → Lists kind number shape s buffer.old buffer.new (reported result) }
 {
     let i = moves::queue_at(shape, kind, number);
     if i == 0 {
-        return Report { code: 7, count: 0 };
+        return Err(Refusal::NoSuch);
     }
     // a buffer with room for every process has room for any queue
-    if buffer.len() < shape.processes as usize {
-        if buffer.len() < moves::count_in(area, shape, i) as usize {
-            return Report { code: 5, count: 0 };
-        }
+    let room = buffer.len();
+    if room < shape.processes as usize && room < moves::count_in(area, shape, i) as usize {
+        return Err(Refusal::Short);
     }
-    let count = moves::copy_out(area, shape, i, buffer);
-    Report {
-        code: 0,
-        count: count,
-    }
+    Ok(moves::copy_out(area, shape, i, buffer))
 }

@@ -1,27 +1,28 @@
 // Priorities: SetPriority. Assumes nothing.
 ghost use Rattle.model.specs.declared.Call.TheVariants.{SetPriority};
 ghost use Rattle.model.specs.Machine.{State, model};
+ghost use Rattle.model.specs.Refusals.{told};
 ghost use Rattle.model.specs.Valid.{Valid};
 ghost use Rattle.area.specs.Holds.{Holds};
 ghost use Rattle.area.specs.Calls.{Stands, Does};
 
 use area::layout;
-use model::{Answer, Priority, Shape};
+use model::{Answer, Priority, Refusal, Shape};
 use outcomes::answers;
 
-pub fn set_priority(area: &mut [u16], shape: Shape, priority: Priority) -> Answer
+pub fn set_priority(area: &mut [u16], shape: Shape, priority: Priority) -> Result<Answer, Refusal>
     requires { Stands shape area.old }
-    ensures { (s : State model) → Holds shape area.old s → Valid shape s → Does (SetPriority priority) shape area.old area.new s result }
+    ensures { (s : State model) → Holds shape area.old s → Valid shape s → Does (SetPriority priority) shape area.old area.new s (told result) }
 {
     let v = priority.0;
     let running = area::running_of(area);
     if running == 0 {
-        return answers::refusal(6);
+        return Err(Refusal::Nobody);
     }
     if layout::HIGHEST < v {
-        return answers::refusal(4);
+        return Err(Refusal::BadPriority);
     }
     let base = area::records_at(shape);
     moves::rank(area, base, running, v);
-    answers::finish(area, shape, 0, 0, 0)
+    Ok(answers::finish(area, shape, 0, 0, 0))
 }

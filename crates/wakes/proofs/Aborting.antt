@@ -2,7 +2,7 @@
 -- none was one. Assumes nothing.
 use Prim.Native.Nat.{ℕ, suc, zero, ◌+◌, ◌-◌, ◌≤◌, ◌<◌}
 use native.Mathlib.Omega.{arith}
-use mathlib.Core.Path.{◌≡◌, refl, sym, ap, ◌∙◌}
+use mathlib.Core.Path.{◌≡◌, refl, sym, ap, ◌∙◌, subst}
 use mathlib.Core.Logic.{◌≢◌}
 use mathlib.Core.Bool.{Bool, true, false, ◌&&◌, ◌||◌, cond, or-true}
 use mathlib.Core.List.{List, [], ◌∷◌}
@@ -50,6 +50,10 @@ any_passed (suc k) t l a b =
     let x : suc k - 1 ≡ k = omega arith in
     let y : suc k + 1 - 1 ≡ suc k = omega arith in
     rw y (rw (b, rw x at a))
+
+-- all of them are none
+pub all_passed : (m : ℕ) {k : ℕ} (t : ℕ → Bool) → k ≡ m → any_of k t ≡ false → any_of m t ≡ false
+all_passed m t e h = subst (λ (k : ℕ). any_of k t ≡ false) e h
 
 module _ {n : Shape} {old new : List ℕ} (s : State model) (p : ℕ) where
   -- it was found

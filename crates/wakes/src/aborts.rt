@@ -6,13 +6,14 @@ ghost use Rattle.model.specs.Field.{some};
 ghost use Rattle.model.specs.Field.Field.{abortable};
 ghost use Rattle.model.specs.Rules.{abortably};
 ghost use Rattle.model.specs.Machine.{State, model};
+ghost use Rattle.model.specs.Refusals.{told};
 ghost use Rattle.model.specs.Valid.{Valid};
 ghost use Rattle.area.specs.Holds.{Holds, Held, Becomes, Tried};
 ghost use Rattle.area.specs.Calls.{Stands, Does, woken};
 
 use crate::rouse;
 use area::places;
-use model::{Answer, Process, Shape};
+use model::{Answer, Process, Refusal, Shape};
 use outcomes::{answers, codes};
 
 // p wakes, if the condition is abortable and p waits there. Whether it does.
@@ -39,42 +40,38 @@ fn call_off_any(area: &mut [u16], shape: Shape, p: u16) -> u16
     if !area::waits(area, shape, p) {
         return 0;
     }
-    let conditions = shape.conditions;
-    let mut c: u16 = 1;
-    while c <= conditions {
+    for c in 1..=shape.conditions {
         if call_off(area, shape, c, p) {
             return 1;
         }
-        c += 1;
     }
     0
 }
 
-pub fn abort(area: &mut [u16], shape: Shape, process: Process) -> Answer
+pub fn abort(area: &mut [u16], shape: Shape, process: Process) -> Result<Answer, Refusal>
     requires { Stands shape area.old }
-    ensures { (s : State model) → Holds shape area.old s → Valid shape s → Does (Abort process) shape area.old area.new s result }
+    ensures { (s : State model) → Holds shape area.old s → Valid shape s → Does (Abort process) shape area.old area.new s (told result) }
 {
     let p = process.0;
-    let code = codes::missing(shape.processes, p);
-    if code != 0 {
-        return answers::refusal(code);
-    }
+    codes::missing(shape.processes, p)?;
     area::put(area, places::abort(shape, p), 1);
     let moved = call_off_any(area, shape, p);
-    answers::finish(area, shape, 0, moved, 0)
+    Ok(answers::finish(area, shape, 0, moved, 0))
 }
 
-pub fn set_abortable(area: &mut [u16], shape: Shape, condition: u16, value: u16) -> Answer
+pub fn set_abortable(
+    area: &mut [u16],
+    shape: Shape,
+    condition: u16,
+    value: u16,
+) -> Result<Answer, Refusal>
     requires { Stands shape area.old }
-    ensures { (s : State model) → Holds shape area.old s → Valid shape s → Does (SetAbortable condition value) shape area.old area.new s result }
+    ensures { (s : State model) → Holds shape area.old s → Valid shape s → Does (SetAbortable condition value) shape area.old area.new s (told result) }
 {
-    let code = codes::missing(shape.conditions, condition);
-    if code != 0 {
-        return answers::refusal(code);
-    }
+    codes::missing(shape.conditions, condition)?;
     if value > 1 {
-        return answers::refusal(7);
+        return Err(Refusal::NoSuch);
     }
     area::put(area, places::abortable(shape, condition), value);
-    answers::finish(area, shape, 0, 0, 0)
+    Ok(answers::finish(area, shape, 0, 0, 0))
 }

@@ -5,12 +5,13 @@ ghost use Rattle.std.specs.Prelude.{◌≡◌, true, [], ◌∷◌, length};
 ghost use Rattle.model.specs.declared.Call.TheVariants.{Notify, Naked};
 ghost use Rattle.model.specs.Queue.{Queue, inside, member, first_only};
 ghost use Rattle.model.specs.Machine.{State, model};
+ghost use Rattle.model.specs.Refusals.{told};
 ghost use Rattle.model.specs.Valid.{Valid};
 ghost use Rattle.area.specs.Holds.{Holds, Held, Becomes, Tried};
 ghost use Rattle.area.specs.Calls.{Stands, Does, woken};
 
 use area::places;
-use model::{Answer, Shape};
+use model::{Answer, Refusal, Shape};
 use outcomes::{answers, codes};
 
 pub mod aborts;
@@ -48,31 +49,25 @@ fn wake_first(area: &mut [u16], shape: Shape, condition: u16) -> u16
     1
 }
 
-pub fn notify(area: &mut [u16], shape: Shape, condition: u16) -> Answer
+pub fn notify(area: &mut [u16], shape: Shape, condition: u16) -> Result<Answer, Refusal>
     requires { Stands shape area.old }
-    ensures { (s : State model) → Holds shape area.old s → Valid shape s → Does (Notify condition) shape area.old area.new s result }
+    ensures { (s : State model) → Holds shape area.old s → Valid shape s → Does (Notify condition) shape area.old area.new s (told result) }
 {
     let running = area::running_of(area);
-    let code = codes::calling(running, shape.conditions, condition);
-    if code != 0 {
-        return answers::refusal(code);
-    }
+    codes::calling(running, shape.conditions, condition)?;
     let moved = wake_first(area, shape, condition);
-    answers::finish(area, shape, 0, moved, 0)
+    Ok(answers::finish(area, shape, 0, moved, 0))
 }
 
-pub fn naked(area: &mut [u16], shape: Shape, condition: u16) -> Answer
+pub fn naked(area: &mut [u16], shape: Shape, condition: u16) -> Result<Answer, Refusal>
     requires { Stands shape area.old }
-    ensures { (s : State model) → Holds shape area.old s → Valid shape s → Does (Naked condition) shape area.old area.new s result }
+    ensures { (s : State model) → Holds shape area.old s → Valid shape s → Does (Naked condition) shape area.old area.new s (told result) }
 {
-    let code = codes::missing(shape.conditions, condition);
-    if code != 0 {
-        return answers::refusal(code);
-    }
+    codes::missing(shape.conditions, condition)?;
     let moved = wake_first(area, shape, condition);
     if moved != 0 {
-        return answers::finish(area, shape, 0, moved, 0);
+        return Ok(answers::finish(area, shape, 0, moved, 0));
     }
     area::put(area, places::wakeup(shape, condition), 1);
-    answers::finish(area, shape, 1, 0, 0)
+    Ok(answers::finish(area, shape, 1, 0, 0))
 }

@@ -1,7 +1,7 @@
 -- `locks::enter` meets its contract: its tests in the rule's order; a free lock is taken, and for a held one who runs blocks. Assumes nothing.
 use mathlib.Core.Path.{refl}
 use Rattle.moves.proofs.Shared.{runner_stands, runner_small}
-use Rattle.outcomes.proofs.Outcomes.{refusing, early, calling_runs, calling_there}
+use Rattle.outcomes.proofs.Outcomes.{refusing, passed_on, calling_runs, calling_there}
 use Rattle.locks.proofs.Locking.{enter_refused, enter_own, enter_free, enter_taken}
 use Rattle.locks.proofs.enter.Goals as goal
 
@@ -11,7 +11,7 @@ running_of-running-requires c = (c.args.shape, (c.requires.state, c.requires.hol
 pub returns-in_err-calling : goal.returns-in_err-calling
 returns-in_err-calling c s H v =
     let n = c.args.shape in
-    enter_refused H c.args.lock (c.running_of-running.ensures n s H) c.in_err-calling.ensures (refusing _) (early _ _ c.from_residual.ensures.1)
+    enter_refused H c.args.lock (c.running_of-running.ensures n s H) c.in_err-calling.ensures (refusing _) (passed_on _ _ c.from_residual.ensures.1)
 
 pub holder_of-holder-requires : goal.holder_of-holder-requires
 holder_of-holder-requires c = record { held = (c.requires.state, c.requires.holds); l_value = calling_there c.in_ok-calling.ensures refl }

@@ -1,6 +1,6 @@
 -- `locks::exit` meets its contract: its tests in the rule's order, and then the release. Assumes nothing.
 use mathlib.Core.Path.{refl}
-use Rattle.outcomes.proofs.Outcomes.{refusing, early, calling_there}
+use Rattle.outcomes.proofs.Outcomes.{refusing, passed_on, calling_there}
 use Rattle.locks.proofs.Locking.{exit_refused, exit_foreign, exit_own}
 use Rattle.locks.proofs.exit.Goals as goal
 
@@ -10,7 +10,7 @@ running_of-running-requires c = (c.args.shape, (c.requires.state, c.requires.hol
 pub returns-in_err-calling : goal.returns-in_err-calling
 returns-in_err-calling c s H v =
     let n = c.args.shape in
-    exit_refused H c.args.lock (c.running_of-running.ensures n s H) c.in_err-calling.ensures (refusing _) (early _ _ c.from_residual.ensures.1)
+    exit_refused H c.args.lock (c.running_of-running.ensures n s H) c.in_err-calling.ensures (refusing _) (passed_on _ _ c.from_residual.ensures.1)
 
 pub holder_of-holder-requires : goal.holder_of-holder-requires
 holder_of-holder-requires c = record { held = (c.requires.state, c.requires.holds); l_value = calling_there c.in_ok-calling.ensures refl }

@@ -1,78 +1,48 @@
 -- `queues::requeue` meets its contract: the process moves from one of ready and the parks to another, by the rule of Requeue. Assumes nothing.
-use mathlib.Core.Path.{sym, ◌∙◌}
-use mathlib.Core.Logic.{inl, inr}
-use Rattle.model.proofs.Tests.{not_true}
-use Rattle.queues.proofs.Requeues.{source, destination, process, between, not_ready, requeue_none, requeue_absent, requeue_moves}
+use mathlib.Core.Path.{refl, sym, ◌∙◌}
+use Rattle.outcomes.proofs.Outcomes.{refusing, passed_on, missing_there}
+use Rattle.queues.proofs.Requeues.{between, not_ready, requeue_none, requeue_missing, requeue_absent, requeue_moves}
 use Rattle.queues.proofs.requeue.Goals as goal
 
 pub returns-then-shape-source : goal.returns-then-shape-source
-returns-then-shape-source c = λ s H v. requeue_none H _ _ _ (source c.if-shape-source.true) c.refusal.ensures
+returns-then-shape-source c s H v = requeue_none H _ _ _ c.then-shape-source.either
 
-pub returns-then-shape-destination : goal.returns-then-shape-destination
-returns-then-shape-destination c = λ s H v. requeue_none H _ _ _ (destination c.if-shape-destination.true) c.refusal-then-shape-destination.ensures
-
-pub returns-then-p-eq0 : goal.returns-then-p-eq0
-returns-then-p-eq0 c = λ s H v. requeue_none H _ _ _ (process (inl c.if-p-eq0.true)) c.refusal-then-p-eq0.ensures
-
-pub returns-then-shape-p : goal.returns-then-shape-p
-returns-then-shape-p c = λ s H v. requeue_none H _ _ _ (process (inr c.if-shape-p.true)) c.refusal-then-shape-p.ensures
+pub returns-in_err-missing : goal.returns-in_err-missing
+returns-in_err-missing c s H v = requeue_missing H _ _ _ c.if-shape-source.false c.if-shape-destination.false c.in_err-missing.ensures (refusing _) (passed_on _ _ c.from_residual.ensures.1)
 
 pub send-requires : goal.send-requires
 send-requires c =
-    let args = c.args in
-    let pre = c.requires in
-    let if1 = c.if-shape-source in
-    let if2 = c.if-shape-destination in
-    let if3 = c.if-p-eq0 in
-    let if4 = c.if-shape-p in
-    let park_at = c.park_at-from in
-    (args.shape, c.records_at-base.ensures, between args.source args.destination pre.holds if1.false if2.false (park_at.ensures args.shape) (c.park_at-to.ensures args.shape) if3.false if4.false)
+    let u = c.args in
+    let n = u.shape in
+    (n, c.records_at-base.ensures, between u.source u.destination c.requires.holds c.if-shape-source.false c.if-shape-destination.false (c.park_at-from.ensures n) (c.park_at-to.ensures n) (missing_there c.in_ok-missing.ensures refl))
 
 pub returns-then-not-send : goal.returns-then-not-send
 returns-then-not-send c s H v =
-    let args = c.args in
-    let if1 = c.if-shape-source in
-    let if2 = c.if-shape-destination in
-    let if3 = c.if-p-eq0 in
-    let if4 = c.if-shape-p in
-    let park_at = c.park_at-from in
-    let park_at2 = c.park_at-to in
-    let send = c.send in
-    let t = send.ensures args.shape c.records_at-base.ensures (between args.source args.destination H if1.false if2.false (park_at.ensures args.shape) (park_at2.ensures args.shape) if3.false if4.false) in
-    let no = sym t.told ∙ not_true send.result c.if-not-send.true-raw in
-    requeue_absent H _ _ _ if1.false if2.false if3.false if4.false (t.kept no) no c.refusal-then-not-send.ensures
+    let u = c.args in
+    let n = u.shape in
+    let x = c.if-shape-source.false in
+    let y = c.if-shape-destination.false in
+    let i = missing_there c.in_ok-missing.ensures refl in
+    let t = c.send.ensures n c.records_at-base.ensures (between u.source u.destination H x y (c.park_at-from.ensures n) (c.park_at-to.ensures n) i) in
+    let no = sym t.told ∙ c.if-not-send.true in
+    requeue_absent H _ _ _ x y i (t.kept no) no
 
 pub finish-requires : goal.finish-requires
 finish-requires c =
-    let args = c.args in
-    let pre = c.requires in
-    let if1 = c.if-shape-source in
-    let if2 = c.if-shape-destination in
-    let if3 = c.if-p-eq0 in
-    let if4 = c.if-shape-p in
-    let park_at = c.park_at-from in
-    let park_at2 = c.park_at-to in
-    let send = c.send in
-    let if5 = c.if-not-send in
-    let H = pre.holds in
-    let t = send.ensures args.shape c.records_at-base.ensures (between args.source args.destination H if1.false if2.false (park_at.ensures args.shape) (park_at2.ensures args.shape) if3.false if4.false) in
-    (_, (t.done (sym t.told ∙ if5.false)).holds)
+    let u = c.args in
+    let n = u.shape in
+    let i = missing_there c.in_ok-missing.ensures refl in
+    let t = c.send.ensures n c.records_at-base.ensures (between u.source u.destination c.requires.holds c.if-shape-source.false c.if-shape-destination.false (c.park_at-from.ensures n) (c.park_at-to.ensures n) i) in
+    (_, (t.done (sym t.told ∙ c.if-not-send.false)).holds)
 
 pub returns : goal.returns
 returns c s H v =
-    let args = c.args in
-    let if1 = c.if-shape-source in
-    let if2 = c.if-shape-destination in
-    let if3 = c.if-p-eq0 in
-    let if4 = c.if-shape-p in
-    let park_at = c.park_at-from in
-    let park_at2 = c.park_at-to in
-    let send = c.send in
-    let if5 = c.if-not-send in
-    let arrives = c.arrives in
-    let finish = c.finish in
-    let t = send.ensures args.shape c.records_at-base.ensures (between args.source args.destination H if1.false if2.false (park_at.ensures args.shape) (park_at2.ensures args.shape) if3.false if4.false) in
-    let m = sym t.told ∙ if5.false in
+    let u = c.args in
+    let n = u.shape in
+    let x = c.if-shape-source.false in
+    let y = c.if-shape-destination.false in
+    let i = missing_there c.in_ok-missing.ensures refl in
+    let t = c.send.ensures n c.records_at-base.ensures (between u.source u.destination H x y (c.park_at-from.ensures n) (c.park_at-to.ensures n) i) in
+    let m = sym t.told ∙ c.if-not-send.false in
     let b = t.done m in
-    requeue_moves H _ _ _ if1.false if2.false if3.false if4.false m
-    (arrives.ensures args.process.0 s.queues m (not_ready H args.source args.process.0 m)) b (finish.ensures _ b.holds)
+    requeue_moves H _ _ _ x y i m (c.arrives.ensures u.process.0 s.queues m (not_ready H u.source u.process.0 m)) b (c.finish.ensures _ b.holds)

@@ -3,14 +3,14 @@ use native.Mathlib.Omega.{arith}
 use mathlib.Core.Path.{◌≡◌, refl, sym}
 use Rattle.model.specs.Rules.{start_code}
 use Rattle.model.proofs.Kept.{given}
-use Rattle.outcomes.proofs.Outcomes.{refusing, early}
+use Rattle.outcomes.proofs.Outcomes.{refusing, passed_on}
 use Rattle.start.proofs.Started.{refuses_code, refuses_short, accepts_start}
 use Rattle.start.proofs.start.Goals as goal
 
 pub returns-in_err-tested : goal.returns-in_err-tested
 returns-in_err-tested c =
     let s = c.args in
-    refuses_code s.shape s.priorities.now s.area.now c.in_err-tested.ensures (refusing _) (early _ _ c.from_residual.ensures.1)
+    refuses_code s.shape s.priorities.now s.area.now c.in_err-tested.ensures (refusing _) (passed_on _ _ c.from_residual.ensures.1)
 
 pub returns-then-area-size_of : goal.returns-then-area-size_of
 returns-then-area-size_of c =

@@ -12,7 +12,7 @@ use Rattle.area.specs.Calls.{changed}
 use Rattle.area.proofs.Puts.{becomes_then}
 use Rattle.area.proofs.Rings.{member_inside}
 use Rattle.moves.proofs.Shared.{runner_stands, taking}
-use Rattle.outcomes.proofs.Outcomes.{refusing, early, two_runs, two_first, two_second}
+use Rattle.outcomes.proofs.Outcomes.{refusing, passed_on, two_runs, two_first, two_second}
 use Rattle.waits.proofs.Waiting.{waiter_stands, wait_refused, wait_foreign, wait_off, wait_over, wait_sleeps}
 use Rattle.waits.proofs.wait.Goals as goal
 
@@ -20,7 +20,7 @@ pub running_of-running-requires : goal.running_of-running-requires
 running_of-running-requires c = (c.args.shape, (c.requires.state, c.requires.holds))
 
 pub returns-in_err-calling_two : goal.returns-in_err-calling_two
-returns-in_err-calling_two c s H v = wait_refused H c.args.lock c.args.condition c.args.ticks (c.running_of-running.ensures c.args.shape s H) c.in_err-calling_two.ensures (refusing _) (early _ _ c.from_residual.ensures.1)
+returns-in_err-calling_two c s H v = wait_refused H c.args.lock c.args.condition c.args.ticks (c.running_of-running.ensures c.args.shape s H) c.in_err-calling_two.ensures (refusing _) (passed_on _ _ c.from_residual.ensures.1)
 
 pub holder_of-holder-requires : goal.holder_of-holder-requires
 holder_of-holder-requires c = record { held = (c.requires.state, c.requires.holds); l_value = two_first c.in_ok-calling_two.ensures refl }

@@ -3,16 +3,16 @@ use native.Mathlib.Omega.{arith}
 use mathlib.Core.Path.{refl, sym, ◌∙◌}
 use Rattle.model.specs.Field.Field.{wakeup}
 use Rattle.area.proofs.Puts.{becomes_then}
-use Rattle.outcomes.proofs.Outcomes.{missing_there}
+use Rattle.outcomes.proofs.Outcomes.{refusing, passed_on, missing_there}
 use Rattle.moves.proofs.Shared.{taking}
 use Rattle.wakes.proofs.Waking.{naked_refused, naked_first, naked_nobody, still}
 use Rattle.wakes.proofs.naked.Goals as goal
 
-pub returns-then-code-ne0 : goal.returns-then-code-ne0
-returns-then-code-ne0 c s H v = naked_refused H c.args.condition c.missing-code.ensures c.if-code-ne0.true c.refusal.ensures
+pub returns-in_err-missing : goal.returns-in_err-missing
+returns-in_err-missing c s H v = naked_refused H c.args.condition c.in_err-missing.ensures (refusing _) (passed_on _ _ c.from_residual.ensures.1)
 
 pub wake_first-moved-requires : goal.wake_first-moved-requires
-wake_first-moved-requires c = record { held = (c.requires.state, c.requires.holds); condition_value = missing_there c.missing-code.ensures c.if-code-ne0.false }
+wake_first-moved-requires c = record { held = (c.requires.state, c.requires.holds); condition_value = missing_there c.in_ok-missing.ensures refl }
 
 pub finish-requires : goal.finish-requires
 finish-requires c = (_, (c.wake_first-moved.ensures c.requires.state c.requires.holds).1.holds)
@@ -20,10 +20,10 @@ finish-requires c = (_, (c.wake_first-moved.ensures c.requires.state c.requires.
 pub returns-then-moved-ne0 : goal.returns-then-moved-ne0
 returns-then-moved-ne0 c s H v =
     let w = c.wake_first-moved.ensures s H in
-    naked_first H c.args.condition (missing_there c.missing-code.ensures c.if-code-ne0.false) w.0 c.if-moved-ne0.true w.1 (c.finish.ensures _ w.1.holds)
+    naked_first H c.args.condition (missing_there c.in_ok-missing.ensures refl) w.0 c.if-moved-ne0.true w.1 (c.finish.ensures _ w.1.holds)
 
 pub wakeup-requires : goal.wakeup-requires
-wakeup-requires c = missing_there c.missing-code.ensures c.if-code-ne0.false
+wakeup-requires c = missing_there c.in_ok-missing.ensures refl
 
 pub put-requires : goal.put-requires
 put-requires c =
@@ -48,4 +48,4 @@ returns c s H v =
     let L = c.wakeup.ensures in
     let m = still s k none w.1 in
     let p = c.put.ensures u.shape s (wakeup k) m.holds (taking (wakeup k) L refl (rw L.0 (omega arith))) in
-    naked_nobody H k (missing_there c.missing-code.ensures c.if-code-ne0.false) none (becomes_then m p) (c.finish-2.ensures _ p.holds)
+    naked_nobody H k (missing_there c.in_ok-missing.ensures refl) none (becomes_then m p) (c.finish-2.ensures _ p.holds)

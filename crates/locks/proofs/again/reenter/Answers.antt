@@ -10,7 +10,7 @@ use Rattle.model.specs.Valid.{Valid}
 use Rattle.area.specs.Holds.{Holds}
 use Rattle.area.proofs.Rings.{member_inside}
 use Rattle.moves.proofs.Shared.{runner_stands, runner_small, taking}
-use Rattle.outcomes.proofs.Outcomes.{refusing, early, two_runs, two_first, two_second, two_calling}
+use Rattle.outcomes.proofs.Outcomes.{refusing, passed_on, two_runs, two_first, two_second, two_calling}
 use Rattle.locks.proofs.Locking.{enter_own, enter_free, enter_taken}
 use Rattle.locks.proofs.Reentry.{reenter_refused, reenter_locked_lem, reenter_off, reenter_free}
 use Rattle.locks.proofs.again.reenter.Goals as goal
@@ -19,7 +19,7 @@ pub running_of-running-requires : goal.running_of-running-requires
 running_of-running-requires c = (c.args.shape, (c.requires.state, c.requires.holds))
 
 pub returns-in_err-calling_two : goal.returns-in_err-calling_two
-returns-in_err-calling_two c s H v = reenter_refused H c.args.lock c.args.condition (c.running_of-running.ensures c.args.shape s H) c.in_err-calling_two.ensures (refusing _) (early _ _ c.from_residual.ensures.1)
+returns-in_err-calling_two c s H v = reenter_refused H c.args.lock c.args.condition (c.running_of-running.ensures c.args.shape s H) c.in_err-calling_two.ensures (refusing _) (passed_on _ _ c.from_residual.ensures.1)
 
 pub holder_of-holder-requires : goal.holder_of-holder-requires
 holder_of-holder-requires c = record { held = (c.requires.state, c.requires.holds); l_value = two_first c.in_ok-calling_two.ensures refl }

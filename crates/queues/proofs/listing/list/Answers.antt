@@ -9,7 +9,7 @@ use Rattle.area.specs.Holds.{Holds}
 use Rattle.moves.proofs.QueueBy.{Found, none_by, some_by}
 use Rattle.queues.proofs.Ways.{list_missing, list_short, list_whole}
 use Rattle.queues.proofs.listing.list.Goals as goal
-use Rattle.queues.proofs.listing.list.Goals.{then-buffer-shape+else-buffer-count_in, else-buffer-shape}
+use Rattle.queues.proofs.listing.list.Goals.{else-room-shape-via-then-room-shape+else-room-count_in, else-room-shape-via-else-room-shape}
 
 pub returns-then-i-eq0 : goal.returns-then-i-eq0
 returns-then-i-eq0 c s H =
@@ -23,18 +23,18 @@ count_in-requires c =
     let named : Queue = let a = c.args in queue_by a.kind a.number in
     let f = found in record { held = c.requires; q_value = (named, f.given, f.here) }
 
-pub returns-then-buffer-count_in : goal.returns-then-buffer-count_in
-returns-then-buffer-count_in c s H =
+pub returns-then-room-count_in : goal.returns-then-room-count_in
+returns-then-room-count_in c s H =
     let found : let a = c.args in Found a.shape a.kind a.number c.queue_at-i.result = let a = c.args in some_by a.shape a.kind a.number c.queue_at-i.ensures c.if-i-eq0.false in
-    let f = found in list_short f.known (c.count_in.ensures s _ H f.given f.here) c.if-buffer-count_in.true
+    let f = found in list_short f.known (c.count_in.ensures s _ H f.given f.here) c.if-room-count_in.true
 
-pub copy_out-count-requires : goal.copy_out-count-requires
-copy_out-count-requires c =
+pub copy_out-requires : goal.copy_out-requires
+copy_out-requires c =
     let found : let a = c.args in Found a.shape a.kind a.number c.queue_at-i.result = let a = c.args in some_by a.shape a.kind a.number c.queue_at-i.ensures c.if-i-eq0.false in
     let named : Queue = let a = c.args in queue_by a.kind a.number in
-    let room : (s : State model) → let a = c.args in Holds a.shape a.area.now s → length (s.queues named) ≤ length a.buffer.now = λ s H. let f = found in elim c.if-buffer-shape.branch [
-      | then-buffer-shape+else-buffer-count_in w ↦ omega (arith, w.count_in.ensures s named H f.given f.here, w.if-buffer-count_in.false)
-      | else-buffer-shape w ↦ omega (arith, queue_length c.args.shape.processes s.queues H.placed.place H.placed.once named, w.if-buffer-shape.false)
+    let room : (s : State model) → let a = c.args in Holds a.shape a.area.now s → length (s.queues named) ≤ length a.buffer.now = λ s H. let f = found in elim c.else-room-shape.branch [
+      | else-room-shape-via-then-room-shape+else-room-count_in w ↦ omega (arith, w.count_in.ensures s named H f.given f.here, w.if-room-count_in.false)
+      | else-room-shape-via-else-room-shape w ↦ omega (arith, queue_length c.args.shape.processes s.queues H.placed.place H.placed.once named, w.if-room-shape.false)
     ] in
     let f = found in
     let g = c.requires in
@@ -44,10 +44,10 @@ pub returns : goal.returns
 returns c s H =
     let found : let a = c.args in Found a.shape a.kind a.number c.queue_at-i.result = let a = c.args in some_by a.shape a.kind a.number c.queue_at-i.ensures c.if-i-eq0.false in
     let named : Queue = let a = c.args in queue_by a.kind a.number in
-    let room : (s : State model) → let a = c.args in Holds a.shape a.area.now s → length (s.queues named) ≤ length a.buffer.now = λ s H. let f = found in elim c.if-buffer-shape.branch [
-      | then-buffer-shape+else-buffer-count_in w ↦ omega (arith, w.count_in.ensures s named H f.given f.here, w.if-buffer-count_in.false)
-      | else-buffer-shape w ↦ omega (arith, queue_length c.args.shape.processes s.queues H.placed.place H.placed.once named, w.if-buffer-shape.false)
+    let room : (s : State model) → let a = c.args in Holds a.shape a.area.now s → length (s.queues named) ≤ length a.buffer.now = λ s H. let f = found in elim c.else-room-shape.branch [
+      | else-room-shape-via-then-room-shape+else-room-count_in w ↦ omega (arith, w.count_in.ensures s named H f.given f.here, w.if-room-count_in.false)
+      | else-room-shape-via-else-room-shape w ↦ omega (arith, queue_length c.args.shape.processes s.queues H.placed.place H.placed.once named, w.if-room-shape.false)
     ] in
     let f = found in
-    let k = c.copy_out-count.ensures s _ H f.given f.here in
+    let k = c.copy_out.ensures s _ H f.given f.here in
     list_whole f.known k.0 (room s H) k.1

@@ -13,12 +13,12 @@ running_of-running-requires c = (c.args.shape, (c.requires.state, c.requires.hol
 pub returns-then-running-eq0 : goal.returns-then-running-eq0
 returns-then-running-eq0 c s H v =
     let n = c.args.shape in
-    set_priority_nobody H c.args.priority (c.running_of-running.ensures n s H) c.if-running-eq0.true c.refusal.ensures
+    set_priority_nobody H c.args.priority (c.running_of-running.ensures n s H) c.if-running-eq0.true
 
 pub returns-then-v-gt-HIGHEST : goal.returns-then-v-gt-HIGHEST
 returns-then-v-gt-HIGHEST c s H v =
     let n = c.args.shape in
-    set_priority_high H c.args.priority (c.running_of-running.ensures n s H) c.if-running-eq0.false c.if-v-gt-HIGHEST.true c.refusal-then-v-gt-HIGHEST.ensures
+    set_priority_high H c.args.priority (c.running_of-running.ensures n s H) c.if-running-eq0.false c.if-v-gt-HIGHEST.true
 
 pub rank-requires : goal.rank-requires
 rank-requires c =

@@ -3,18 +3,18 @@ use native.Mathlib.Omega.{arith}
 use mathlib.Core.Path.{refl}
 use Rattle.model.specs.Field.Field.{abortable}
 use Rattle.moves.proofs.Shared.{taking}
-use Rattle.outcomes.proofs.Outcomes.{missing_there}
+use Rattle.outcomes.proofs.Outcomes.{refusing, passed_on, missing_there}
 use Rattle.wakes.proofs.Aborting.{set_missing, set_above, set_done}
 use Rattle.wakes.proofs.aborts.set_abortable.Goals as goal
 
-pub returns-then-code-ne0 : goal.returns-then-code-ne0
-returns-then-code-ne0 c s H v = set_missing H c.args.condition c.args.value c.missing-code.ensures c.if-code-ne0.true c.refusal.ensures
+pub returns-in_err-missing : goal.returns-in_err-missing
+returns-in_err-missing c s H v = set_missing H c.args.condition c.args.value c.in_err-missing.ensures (refusing _) (passed_on _ _ c.from_residual.ensures.1)
 
 pub returns-then-value-gt1 : goal.returns-then-value-gt1
-returns-then-value-gt1 c s H v = set_above H c.args.condition c.args.value c.missing-code.ensures c.if-value-gt1.true c.refusal-then-value-gt1.ensures
+returns-then-value-gt1 c s H v = set_above H c.args.condition c.args.value c.in_ok-missing.ensures c.if-value-gt1.true refl
 
 pub abortable-requires : goal.abortable-requires
-abortable-requires c = missing_there c.missing-code.ensures c.if-code-ne0.false
+abortable-requires c = missing_there c.in_ok-missing.ensures refl
 
 pub put-requires : goal.put-requires
 put-requires c =
@@ -30,4 +30,4 @@ pub returns : goal.returns
 returns c s H v =
     let L = c.abortable.ensures in
     let b = c.put.ensures c.args.shape s (abortable c.args.condition) H (taking (abortable c.args.condition) L refl (rw L.0 (omega (arith, c.if-value-gt1.false)))) in
-    set_done H c.args.condition c.args.value c.missing-code.ensures c.if-code-ne0.false c.if-value-gt1.false b (c.finish.ensures _ b.holds)
+    set_done H c.args.condition c.args.value c.in_ok-missing.ensures refl c.if-value-gt1.false b (c.finish.ensures _ b.holds)
