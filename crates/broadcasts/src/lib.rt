@@ -5,7 +5,7 @@ ghost use Rattle.std.specs.Prelude.{◌≡◌, ℕ, true, length};
 ghost use Rattle.model.specs.declared.Call.TheVariants.{Broadcast};
 ghost use Rattle.model.specs.Queue.{Queue, inside};
 ghost use Rattle.model.specs.Machine.{State, model};
-ghost use Rattle.model.specs.Refusals.{told};
+ghost use Rattle.model.specs.Refusals.{answer_in};
 ghost use Rattle.model.specs.Valid.{Valid};
 ghost use Rattle.area.specs.Layout.{at};
 ghost use Rattle.area.specs.Layout.Slot.{Tail};
@@ -32,7 +32,7 @@ fn wake_all(area: &mut [u16], shape: Shape, from: usize) -> u16
 
 pub fn broadcast(area: &mut [u16], shape: Shape, condition: u16) -> Result<Answer, Refusal>
     requires { Stands shape area.old }
-    ensures { (s : State model) → Holds shape area.old s → Valid shape s → Does (Broadcast condition) shape area.old area.new s (told result) }
+    ensures { (s : State model) → Holds shape area.old s → Valid shape s → Does (Broadcast condition) shape area.old area.new s (answer_in result) }
 {
     let running = area::running_of(area);
     codes::calling(running, shape.conditions, condition)?;

@@ -5,7 +5,7 @@ ghost use Rattle.std.specs.Prelude.{ℕ, List};
 ghost use Rattle.model.specs.declared.Call.{Call};
 ghost use Rattle.model.specs.declared.Call.TheVariants.{Enter, Exit, Wait, Notify, Broadcast, Naked, Requeue, SetPriority, Tick, Abort, SetAbortable, Reenter};
 ghost use Rattle.model.specs.Machine.{fields_of};
-ghost use Rattle.model.specs.Refusals.{told};
+ghost use Rattle.model.specs.Refusals.{answer_in};
 ghost use Rattle.monitor.specs.Calls.{Performs};
 ghost use Rattle.wire.specs.Wire.{Carries};
 ghost use Rattle.kernel.specs.Exports.{Crosses, Begins, Judges, Writes, Dues, Pages, Nears};
@@ -31,7 +31,7 @@ pub fn kernel_start(
         conditions: conditions,
         parks: parks,
     };
-    wire::pack(answers::told(start::start(area, shape, priorities)))
+    wire::pack(answers::answer(start::start(area, shape, priorities)))
 }
 
 pub fn kernel_sound(area: &[u16]) -> u64
@@ -47,10 +47,10 @@ pub fn kernel_sound(area: &[u16]) -> u64
 
 // What is told of a call, as one number, out of which it comes back.
 fn cross(outcome: Result<Answer, Refusal>) -> u64
-    requires { (c : Call) × (old : List ℕ) × (new : List ℕ) × Performs c old new (told outcome) }
-    ensures { Carries 10 result (fields_of (told outcome)) }
+    requires { (c : Call) × (old : List ℕ) × (new : List ℕ) × Performs c old new (answer_in outcome) }
+    ensures { Carries 10 result (fields_of (answer_in outcome)) }
 {
-    wire::pack(answers::told(outcome))
+    wire::pack(answers::answer(outcome))
 }
 
 pub fn kernel_enter(area: &mut [u16], lock: u16) -> u64
@@ -135,19 +135,19 @@ pub fn kernel_reenter(area: &mut [u16], lock: u16, condition: u16) -> u64
 pub fn kernel_list(area: &[u16], kind: u16, number: u16, buffer: &mut [u16]) -> u64
     ensures { Writes kind number area.now buffer.old buffer.new result }
 {
-    wire::pack_list(answers::reported(reads::list(area, kind, number, buffer)))
+    wire::pack_list(answers::report(reads::list(area, kind, number, buffer)))
 }
 
 pub fn kernel_due(area: &[u16], ticks: u16, buffer: &mut [u16]) -> u64
     ensures { Dues ticks area.now buffer.old buffer.new result }
 {
-    wire::pack_report(answers::reported(reads::due(area, Ticks(ticks), buffer)))
+    wire::pack_report(answers::report(reads::due(area, Ticks(ticks), buffer)))
 }
 
 pub fn kernel_sheet(area: &[u16], page: &mut [u8]) -> u64
     ensures { Pages area.now page.old page.new result }
 {
-    wire::pack_report(answers::reported(reads::sheet(area, page)))
+    wire::pack_report(answers::report(reads::sheet(area, page)))
 }
 
 pub fn kernel_nearest(area: &[u16]) -> u64

@@ -6,7 +6,7 @@ ghost use Rattle.model.specs.Field.{some};
 ghost use Rattle.model.specs.Field.Field.{abort, abortable};
 ghost use Rattle.model.specs.Machine.{State, model};
 ghost use Rattle.model.specs.Valid.{Valid};
-ghost use Rattle.model.specs.Refusals.{told};
+ghost use Rattle.model.specs.Refusals.{answer_in};
 ghost use Rattle.area.specs.Holds.{Holds, Held};
 ghost use Rattle.area.specs.Calls.{Stands, Does};
 
@@ -28,7 +28,7 @@ pub fn called_off(area: &[u16], shape: Shape, p: u16, condition: u16) -> bool
 
 pub fn reenter(area: &mut [u16], shape: Shape, lock: u16, condition: u16) -> Result<Answer, Refusal>
     requires { Stands shape area.old }
-    ensures { (s : State model) → Holds shape area.old s → Valid shape s → Does (Reenter lock condition) shape area.old area.new s (told result) }
+    ensures { (s : State model) → Holds shape area.old s → Valid shape s → Does (Reenter lock condition) shape area.old area.new s (answer_in result) }
 {
     let running = area::running_of(area);
     codes::calling_two(running, shape.locks, lock, shape.conditions, condition)?;

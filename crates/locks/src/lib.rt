@@ -10,7 +10,7 @@ ghost use Rattle.model.specs.Field.Field.{failed, holder};
 ghost use Rattle.model.specs.Rules.{released};
 ghost use Rattle.model.specs.Machine.{State, model};
 ghost use Rattle.model.specs.Valid.{Valid};
-ghost use Rattle.model.specs.Refusals.{told};
+ghost use Rattle.model.specs.Refusals.{answer_in};
 ghost use Rattle.area.specs.Holds.{Holds, Held, Becomes};
 ghost use Rattle.area.specs.Calls.{Stands, Does, changed};
 
@@ -52,7 +52,7 @@ fn block(area: &mut [u16], shape: Shape, lock: u16, p: u16) -> u16
 
 pub fn enter(area: &mut [u16], shape: Shape, lock: u16) -> Result<Answer, Refusal>
     requires { Stands shape area.old }
-    ensures { (s : State model) → Holds shape area.old s → Valid shape s → Does (Enter lock) shape area.old area.new s (told result) }
+    ensures { (s : State model) → Holds shape area.old s → Valid shape s → Does (Enter lock) shape area.old area.new s (answer_in result) }
 {
     let running = area::running_of(area);
     codes::calling(running, shape.locks, lock)?;
@@ -70,7 +70,7 @@ pub fn enter(area: &mut [u16], shape: Shape, lock: u16) -> Result<Answer, Refusa
 
 pub fn exit(area: &mut [u16], shape: Shape, lock: u16) -> Result<Answer, Refusal>
     requires { Stands shape area.old }
-    ensures { (s : State model) → Holds shape area.old s → Valid shape s → Does (Exit lock) shape area.old area.new s (told result) }
+    ensures { (s : State model) → Holds shape area.old s → Valid shape s → Does (Exit lock) shape area.old area.new s (answer_in result) }
 {
     let running = area::running_of(area);
     codes::calling(running, shape.locks, lock)?;

@@ -25,11 +25,11 @@ code_in (Ok x) = 0
 code_in (Err why) = code_of why
 
 -- what is told of a call: its answer or, where it is refused, the code and zeros
-abbrev pub told : Result Answer Refusal → Answer
-told (Ok a) = a
-told (Err why) = refusal (code_of why)
+abbrev pub answer_in : Result Answer Refusal → Answer
+answer_in (Ok a) = a
+answer_in (Err why) = refusal (code_of why)
 
 -- what is told of a read into a buffer: how much it wrote there or, where it is refused, the code and 0
-abbrev pub reported : Result ℕ Refusal → Report
-reported (Ok n) = record { code = 0; count = n }
-reported (Err why) = record { code = code_of why; count = 0 }
+abbrev pub report_in : Result ℕ Refusal → Report
+report_in (Ok n) = record { code = 0; count = n }
+report_in (Err why) = record { code = code_of why; count = 0 }

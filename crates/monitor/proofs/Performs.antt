@@ -9,7 +9,7 @@ use Rattle.model.specs.declared.Call.{Call}
 use Rattle.model.specs.declared.Answer.{Answer}
 use Rattle.model.specs.declared.Refusal.{Refusal}
 use Rattle.model.specs.declared.Refusal.TheVariants.{Unsound}
-use Rattle.model.specs.Refusals.{code_of, told}
+use Rattle.model.specs.Refusals.{code_of, answer_in}
 use Rattle.model.specs.Machine.{State, model, refusal}
 use Rattle.model.specs.Valid.{Valid}
 use Rattle.area.specs.State.{write}
@@ -32,7 +32,7 @@ performs S d = record { unsound = λ h. absurd (h S); sound = λ z. (d.answer, b
 
 -- ---- at the places of a call's code, with n the counts of a sound area
 
-pub performs_not : {old : List ℕ} {why : Refusal} → (Sound old → ⊥) × (why ≡ Unsound) → {c : Call} (r : Result Answer Refusal) → IsErrAnd r (λ e. e ≡ why) → Performs c old old (told r)
+pub performs_not : {old : List ℕ} {why : Refusal} → (Sound old → ⊥) × (why ≡ Unsound) → {c : Call} (r : Result Answer Refusal) → IsErrAnd r (λ e. e ≡ why) → Performs c old old (answer_in r)
 performs_not opened r e = record { unsound = λ z. (passed_on r _ e ∙ ap (λ w. refusal (code_of w)) opened.1, refl); sound = λ S. absurd (opened.0 S) }
 
 pub performs_at : {old : List ℕ} {n : Shape} → Sound old × (n ≡ shape_of old) → {c : Call} {new : List ℕ} {a : Answer} → ((s : State model) → Holds n old s → Valid n s → Does c n old new s a) → Performs c old new a

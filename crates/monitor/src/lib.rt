@@ -2,7 +2,7 @@
 #![tactic(auto)]
 
 ghost use Rattle.model.specs.declared.Call.TheVariants.{Enter, Exit, Wait, Notify, Broadcast, Naked, Requeue, SetPriority, Tick, Abort, SetAbortable, Reenter};
-ghost use Rattle.model.specs.Refusals.{told};
+ghost use Rattle.model.specs.Refusals.{answer_in};
 ghost use Rattle.monitor.specs.Calls.{Performs};
 
 use model::{Answer, Call, Priority, Process, Refusal, Ticks};
@@ -10,84 +10,84 @@ use model::{Answer, Call, Priority, Process, Refusal, Ticks};
 // ---- the calls, each on any words: an unsound area is refused, and on a sound one the crate that has the call makes it
 
 pub fn enter(area: &mut [u16], lock: u16) -> Result<Answer, Refusal>
-    ensures { Performs (Enter lock) area.old area.new (told result) }
+    ensures { Performs (Enter lock) area.old area.new (answer_in result) }
 {
     let shape = sound::shape_of(area)?;
     locks::enter(area, shape, lock)
 }
 
 pub fn exit(area: &mut [u16], lock: u16) -> Result<Answer, Refusal>
-    ensures { Performs (Exit lock) area.old area.new (told result) }
+    ensures { Performs (Exit lock) area.old area.new (answer_in result) }
 {
     let shape = sound::shape_of(area)?;
     locks::exit(area, shape, lock)
 }
 
 pub fn wait(area: &mut [u16], lock: u16, condition: u16, ticks: Ticks) -> Result<Answer, Refusal>
-    ensures { Performs (Wait lock condition ticks) area.old area.new (told result) }
+    ensures { Performs (Wait lock condition ticks) area.old area.new (answer_in result) }
 {
     let shape = sound::shape_of(area)?;
     waits::wait(area, shape, lock, condition, ticks)
 }
 
 pub fn notify(area: &mut [u16], condition: u16) -> Result<Answer, Refusal>
-    ensures { Performs (Notify condition) area.old area.new (told result) }
+    ensures { Performs (Notify condition) area.old area.new (answer_in result) }
 {
     let shape = sound::shape_of(area)?;
     wakes::notify(area, shape, condition)
 }
 
 pub fn broadcast(area: &mut [u16], condition: u16) -> Result<Answer, Refusal>
-    ensures { Performs (Broadcast condition) area.old area.new (told result) }
+    ensures { Performs (Broadcast condition) area.old area.new (answer_in result) }
 {
     let shape = sound::shape_of(area)?;
     broadcasts::broadcast(area, shape, condition)
 }
 
 pub fn naked(area: &mut [u16], condition: u16) -> Result<Answer, Refusal>
-    ensures { Performs (Naked condition) area.old area.new (told result) }
+    ensures { Performs (Naked condition) area.old area.new (answer_in result) }
 {
     let shape = sound::shape_of(area)?;
     wakes::naked(area, shape, condition)
 }
 
 pub fn requeue(area: &mut [u16], source: u16, destination: u16, process: Process) -> Result<Answer, Refusal>
-    ensures { Performs (Requeue source destination process) area.old area.new (told result) }
+    ensures { Performs (Requeue source destination process) area.old area.new (answer_in result) }
 {
     let shape = sound::shape_of(area)?;
     queues::requeue(area, shape, source, destination, process)
 }
 
 pub fn set_priority(area: &mut [u16], priority: Priority) -> Result<Answer, Refusal>
-    ensures { Performs (SetPriority priority) area.old area.new (told result) }
+    ensures { Performs (SetPriority priority) area.old area.new (answer_in result) }
 {
     let shape = sound::shape_of(area)?;
     queues::ranks::set_priority(area, shape, priority)
 }
 
 pub fn tick(area: &mut [u16]) -> Result<Answer, Refusal>
-    ensures { Performs Tick area.old area.new (told result) }
+    ensures { Performs Tick area.old area.new (answer_in result) }
 {
     let shape = sound::shape_of(area)?;
     Ok(broadcasts::clock::tick(area, shape))
 }
 
 pub fn abort(area: &mut [u16], process: Process) -> Result<Answer, Refusal>
-    ensures { Performs (Abort process) area.old area.new (told result) }
+    ensures { Performs (Abort process) area.old area.new (answer_in result) }
 {
     let shape = sound::shape_of(area)?;
     wakes::aborts::abort(area, shape, process)
 }
 
 pub fn set_abortable(area: &mut [u16], condition: u16, value: u16) -> Result<Answer, Refusal>
-    ensures { Performs (SetAbortable condition value) area.old area.new (told result) }
+    ensures { Performs (SetAbortable condition value) area.old area.new (answer_in result) }
 {
     let shape = sound::shape_of(area)?;
     wakes::aborts::set_abortable(area, shape, condition, value)
 }
 
 pub fn reenter(area: &mut [u16], lock: u16, condition: u16) -> Result<Answer, Refusal>
-    ensures { Performs (Reenter lock condition) area.old area.new (told result) }
+    ensures { Performs (Reenter lock condition) area.old area.new (answer_in result) }
 {
     let shape = sound::shape_of(area)?;
     locks::again::reenter(area, shape, lock, condition)
@@ -97,7 +97,7 @@ pub fn reenter(area: &mut [u16], lock: u16, condition: u16) -> Result<Answer, Re
 pub fn perform(area: &mut [u16], call: Call) -> Answer
     ensures { Performs call area.old area.new result }
 {
-    outcomes::answers::told(match call {
+    outcomes::answers::answer(match call {
         Call::Enter { lock } => enter(area, lock),
         Call::Exit { lock } => exit(area, lock),
         Call::Wait {

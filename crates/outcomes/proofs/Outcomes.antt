@@ -18,7 +18,7 @@ use Rattle.model.specs.Rules.{Effect, when, choose, decide}
 use Rattle.model.specs.Rules.Effect.{refuse, accept}
 use Rattle.model.specs.declared.Refusal.{Refusal}
 use Rattle.model.specs.declared.Refusal.TheVariants.{Unsound, BadCount, BadList, BadPriority, Short, Nobody, NoSuch, Held, NotHeld, NotThere}
-use Rattle.model.specs.Refusals.{code_of, told}
+use Rattle.model.specs.Refusals.{code_of, answer_in}
 use Rattle.model.specs.Machine.{State, model, moves, arrivals, ahead, finish, step, refusal}
 use Rattle.model.proofs.Tests.{eqb_yes, eqb_no, not_true, or_split}
 use Rattle.model.proofs.Places.{ahead_ready}
@@ -60,7 +60,7 @@ refusing NotHeld = omega arith
 refusing NotThere = omega arith
 
 -- what is told of a call that passes a refusal on by `?`
-pub passed_on : (r : Result Answer Refusal) (why : Refusal) → IsErrAnd r (λ x. x ≡ why) → told r ≡ refusal (code_of why)
+pub passed_on : (r : Result Answer Refusal) (why : Refusal) → IsErrAnd r (λ x. x ≡ why) → answer_in r ≡ refusal (code_of why)
 passed_on (Ok a) why h = absurd h
 passed_on (Err x) why h = ap {A = Refusal} (λ y. refusal (code_of y)) h
 

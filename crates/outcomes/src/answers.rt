@@ -23,8 +23,8 @@ pub fn refusal(code: u16) -> Answer
 }
 
 // What is told of a call: its answer or, where it is refused, the code and zeros.
-pub fn told(outcome: Result<Answer, Refusal>) -> Answer
-    ensures { result ≡ refusals.told outcome }
+pub fn answer(outcome: Result<Answer, Refusal>) -> Answer
+    ensures { result ≡ refusals.answer_in outcome }
 {
     match outcome {
         Ok(answer) => answer,
@@ -33,8 +33,8 @@ pub fn told(outcome: Result<Answer, Refusal>) -> Answer
 }
 
 // What is told of a read into a buffer: how much it wrote there or, where it is refused, the code and 0.
-pub fn reported(outcome: Result<u16, Refusal>) -> Report
-    ensures { result ≡ refusals.reported outcome }
+pub fn report(outcome: Result<u16, Refusal>) -> Report
+    ensures { result ≡ refusals.report_in outcome }
 {
     match outcome {
         Ok(count) => Report { code: 0, count },

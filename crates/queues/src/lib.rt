@@ -8,7 +8,7 @@ ghost use Rattle.model.specs.Queue.Queue.{ready};
 ghost use Rattle.model.specs.Rules as rules;
 ghost use Rattle.model.specs.Machine as machine;
 ghost use Rattle.model.specs.Machine.{State, model};
-ghost use Rattle.model.specs.Refusals.{told};
+ghost use Rattle.model.specs.Refusals.{answer_in};
 ghost use Rattle.model.specs.Valid.{Valid};
 ghost use Rattle.area.specs.Holds.{Holds};
 ghost use Rattle.area.specs.Calls.{Stands, Does};
@@ -34,7 +34,7 @@ pub fn requeue(
     process: Process,
 ) -> Result<Answer, Refusal>
     requires { Stands shape area.old }
-    ensures { (s : State model) → Holds shape area.old s → Valid shape s → Does (Requeue source destination process) shape area.old area.new s (told result) }
+    ensures { (s : State model) → Holds shape area.old s → Valid shape s → Does (Requeue source destination process) shape area.old area.new s (answer_in result) }
 {
     let p = process.0;
     if shape.parks < source || shape.parks < destination {

@@ -1,6 +1,6 @@
 // One queue written out: List. Assumes nothing.
 ghost use Rattle.model.specs.Machine.{State, model};
-ghost use Rattle.model.specs.Refusals.{reported};
+ghost use Rattle.model.specs.Refusals.{report_in};
 ghost use Rattle.area.specs.Holds.{Holds, Held};
 ghost use Rattle.queues.specs.Listing.{Lists};
 
@@ -15,7 +15,7 @@ pub fn list(
     buffer: &mut [u16],
 ) -> Result<u16, Refusal>
     requires { Held shape area.now }
-    ensures { (s : State model) → Holds shape area.now s → Lists kind number shape s buffer.old buffer.new (reported result) }
+    ensures { (s : State model) → Holds shape area.now s → Lists kind number shape s buffer.old buffer.new (report_in result) }
 {
     let i = moves::queue_at(shape, kind, number);
     if i == 0 {

@@ -6,7 +6,7 @@ use Rattle.std.proofs.Common.{Result, Ok, Err, IsErrAnd}
 use Rattle.model.specs.declared.Shape.{Shape}
 use Rattle.model.specs.declared.Refusal.{Refusal}
 use Rattle.model.specs.declared.Refusal.TheVariants.{Unsound}
-use Rattle.model.specs.Refusals.{code_of, reported}
+use Rattle.model.specs.Refusals.{code_of, report_in}
 use Rattle.model.specs.declared.Report.{Report}
 use Rattle.model.specs.Machine.{State, model}
 use Rattle.model.specs.Valid.{Valid}
@@ -20,7 +20,7 @@ use Rattle.reads.specs.Reads.{ReadsOn, NearestOn}
 
 -- the area is refused
 module _ {old : List ℕ} {why : Refusal} (opened : (Sound old → ⊥) × (why ≡ Unsound)) where
-  pub reads_not : {told : Shape → State model → List ℕ → List ℕ → Report → Type 0} {buffer : List ℕ} (r : Result ℕ Refusal) → IsErrAnd r (λ e. e ≡ why) → ReadsOn told old buffer buffer (reported r)
+  pub reads_not : {told : Shape → State model → List ℕ → List ℕ → Report → Type 0} {buffer : List ℕ} (r : Result ℕ Refusal) → IsErrAnd r (λ e. e ≡ why) → ReadsOn told old buffer buffer (report_in r)
   reads_not (Ok n) e = absurd e
   reads_not (Err y) e = record { unsound = λ z. record { code = ap code_of (e ∙ opened.1); count = refl; buffer = refl }; sound = λ S. absurd (opened.0 S) }
 

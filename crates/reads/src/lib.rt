@@ -1,7 +1,7 @@
 // The reads on any words whatever: an unsound area is refused, and of a sound one its state is told. Assumes nothing.
 #![tactic(auto)]
 
-ghost use Rattle.model.specs.Refusals.{reported};
+ghost use Rattle.model.specs.Refusals.{report_in};
 ghost use Rattle.reads.specs.Reads.{ListsOn, TellsOn, SheetsOn, NearestOn};
 
 use model::{Refusal, Ticks};
@@ -9,7 +9,7 @@ use timers::Earliest;
 
 // List: one queue, first to last, into the buffer.
 pub fn list(area: &[u16], kind: u16, number: u16, buffer: &mut [u16]) -> Result<u16, Refusal>
-    ensures { ListsOn kind number area.now buffer.old buffer.new (reported result) }
+    ensures { ListsOn kind number area.now buffer.old buffer.new (report_in result) }
 {
     let shape = sound::shape_of(area)?;
     queues::listing::list(area, shape, kind, number, buffer)
@@ -17,7 +17,7 @@ pub fn list(area: &[u16], kind: u16, number: u16, buffer: &mut [u16]) -> Result<
 
 // Who is due within so many ticks, by ticks left and then by number, two words each into the buffer.
 pub fn due(area: &[u16], ticks: Ticks, buffer: &mut [u16]) -> Result<u16, Refusal>
-    ensures { TellsOn ticks.0 area.now buffer.old buffer.new (reported result) }
+    ensures { TellsOn ticks.0 area.now buffer.old buffer.new (report_in result) }
 {
     let shape = sound::shape_of(area)?;
     timers::due(area, shape, ticks, buffer)
@@ -25,7 +25,7 @@ pub fn due(area: &[u16], ticks: Ticks, buffer: &mut [u16]) -> Result<u16, Refusa
 
 // The yard sheet: a row for each queue, on a page of bytes.
 pub fn sheet(area: &[u16], page: &mut [u8]) -> Result<u16, Refusal>
-    ensures { SheetsOn area.now page.old page.new (reported result) }
+    ensures { SheetsOn area.now page.old page.new (report_in result) }
 {
     let shape = sound::shape_of(area)?;
     sheet::sheet(area, shape, page)

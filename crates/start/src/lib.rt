@@ -4,7 +4,7 @@
 ghost use Rattle.std.specs.Prelude.{◌≡◌, true, [], ℕ, ◌<◌, ◌≤◌, length, get_or, drop};
 ghost use Rattle.model.specs.declared.Shape.{Shape};
 ghost use Rattle.model.specs.Rules.{counted, any_above, start_code};
-ghost use Rattle.model.specs.Refusals.{code_in, told};
+ghost use Rattle.model.specs.Refusals.{code_in, answer_in};
 ghost use Rattle.area.specs.Layout.{size, Image, Stored};
 ghost use Rattle.area.specs.State.{laid};
 ghost use Rattle.area.specs.Holds.{Becomes};
@@ -111,7 +111,7 @@ fn line_up(area: &mut [u16], shape: Shape, priorities: &[u8])
 // ---- Start
 
 pub fn start(area: &mut [u16], shape: Shape, priorities: &[u8]) -> Result<Answer, Refusal>
-    ensures { Starts shape priorities.now area.old area.new (told result) }
+    ensures { Starts shape priorities.now area.old area.new (answer_in result) }
 {
     tested(shape, priorities)?;
     if area.len() < area::size_of(shape) {

@@ -8,7 +8,7 @@ ghost use Rattle.model.specs.Queue.Queue.{ready};
 ghost use Rattle.model.specs.Rules.{alarm, arm};
 ghost use Rattle.model.specs.Machine.{State, model};
 ghost use Rattle.model.specs.Valid.{Valid};
-ghost use Rattle.model.specs.Refusals.{told};
+ghost use Rattle.model.specs.Refusals.{answer_in};
 ghost use Rattle.area.specs.Holds.{Holds, Becomes};
 ghost use Rattle.area.specs.Calls.{Stands, Does, changed};
 
@@ -44,7 +44,7 @@ fn sleep(area: &mut [u16], shape: Shape, condition: u16, p: u16, ticks: Ticks) -
 
 pub fn wait(area: &mut [u16], shape: Shape, lock: u16, condition: u16, ticks: Ticks) -> Result<Answer, Refusal>
     requires { Stands shape area.old }
-    ensures { (s : State model) → Holds shape area.old s → Valid shape s → Does (Wait lock condition ticks) shape area.old area.new s (told result) }
+    ensures { (s : State model) → Holds shape area.old s → Valid shape s → Does (Wait lock condition ticks) shape area.old area.new s (answer_in result) }
 {
     let running = area::running_of(area);
     codes::calling_two(running, shape.locks, lock, shape.conditions, condition)?;

@@ -6,7 +6,7 @@ ghost use Rattle.model.specs.Field.{some};
 ghost use Rattle.model.specs.Field.Field.{abortable};
 ghost use Rattle.model.specs.Rules.{abortably};
 ghost use Rattle.model.specs.Machine.{State, model};
-ghost use Rattle.model.specs.Refusals.{told};
+ghost use Rattle.model.specs.Refusals.{answer_in};
 ghost use Rattle.model.specs.Valid.{Valid};
 ghost use Rattle.area.specs.Holds.{Holds, Held, Becomes, Tried};
 ghost use Rattle.area.specs.Calls.{Stands, Does, woken};
@@ -50,7 +50,7 @@ fn call_off_any(area: &mut [u16], shape: Shape, p: u16) -> u16
 
 pub fn abort(area: &mut [u16], shape: Shape, process: Process) -> Result<Answer, Refusal>
     requires { Stands shape area.old }
-    ensures { (s : State model) → Holds shape area.old s → Valid shape s → Does (Abort process) shape area.old area.new s (told result) }
+    ensures { (s : State model) → Holds shape area.old s → Valid shape s → Does (Abort process) shape area.old area.new s (answer_in result) }
 {
     let p = process.0;
     codes::missing(shape.processes, p)?;
@@ -66,7 +66,7 @@ pub fn set_abortable(
     value: u16,
 ) -> Result<Answer, Refusal>
     requires { Stands shape area.old }
-    ensures { (s : State model) → Holds shape area.old s → Valid shape s → Does (SetAbortable condition value) shape area.old area.new s (told result) }
+    ensures { (s : State model) → Holds shape area.old s → Valid shape s → Does (SetAbortable condition value) shape area.old area.new s (answer_in result) }
 {
     codes::missing(shape.conditions, condition)?;
     if value > 1 {

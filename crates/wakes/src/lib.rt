@@ -5,7 +5,7 @@ ghost use Rattle.std.specs.Prelude.{◌≡◌, true, [], ◌∷◌, length};
 ghost use Rattle.model.specs.declared.Call.TheVariants.{Notify, Naked};
 ghost use Rattle.model.specs.Queue.{Queue, inside, member, first_only};
 ghost use Rattle.model.specs.Machine.{State, model};
-ghost use Rattle.model.specs.Refusals.{told};
+ghost use Rattle.model.specs.Refusals.{answer_in};
 ghost use Rattle.model.specs.Valid.{Valid};
 ghost use Rattle.area.specs.Holds.{Holds, Held, Becomes, Tried};
 ghost use Rattle.area.specs.Calls.{Stands, Does, woken};
@@ -51,7 +51,7 @@ fn wake_first(area: &mut [u16], shape: Shape, condition: u16) -> u16
 
 pub fn notify(area: &mut [u16], shape: Shape, condition: u16) -> Result<Answer, Refusal>
     requires { Stands shape area.old }
-    ensures { (s : State model) → Holds shape area.old s → Valid shape s → Does (Notify condition) shape area.old area.new s (told result) }
+    ensures { (s : State model) → Holds shape area.old s → Valid shape s → Does (Notify condition) shape area.old area.new s (answer_in result) }
 {
     let running = area::running_of(area);
     codes::calling(running, shape.conditions, condition)?;
@@ -61,7 +61,7 @@ pub fn notify(area: &mut [u16], shape: Shape, condition: u16) -> Result<Answer, 
 
 pub fn naked(area: &mut [u16], shape: Shape, condition: u16) -> Result<Answer, Refusal>
     requires { Stands shape area.old }
-    ensures { (s : State model) → Holds shape area.old s → Valid shape s → Does (Naked condition) shape area.old area.new s (told result) }
+    ensures { (s : State model) → Holds shape area.old s → Valid shape s → Does (Naked condition) shape area.old area.new s (answer_in result) }
 {
     codes::missing(shape.conditions, condition)?;
     let moved = wake_first(area, shape, condition);
