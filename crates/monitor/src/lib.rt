@@ -93,11 +93,11 @@ pub fn reenter(area: &mut [u16], lock: u16, condition: u16) -> Result<Answer, Re
     locks::again::reenter(area, shape, lock, condition)
 }
 
-// Any of the twelve, and what is told of it.
-pub fn perform(area: &mut [u16], call: Call) -> Answer
-    ensures { Performs call area.old area.new result }
+// Any of the twelve.
+fn attempt(area: &mut [u16], call: Call) -> Result<Answer, Refusal>
+    ensures { Performs call area.old area.new (answer_in result) }
 {
-    outcomes::answers::answer(match call {
+    match call {
         Call::Enter { lock } => enter(area, lock),
         Call::Exit { lock } => exit(area, lock),
         Call::Wait {
@@ -118,5 +118,12 @@ pub fn perform(area: &mut [u16], call: Call) -> Answer
         Call::Abort { process } => abort(area, process),
         Call::SetAbortable { condition, value } => set_abortable(area, condition, value),
         Call::Reenter { lock, condition } => reenter(area, lock, condition),
-    })
+    }
+}
+
+// Any of the twelve, and its answer, that of a refusal too.
+pub fn perform(area: &mut [u16], call: Call) -> Answer
+    ensures { Performs call area.old area.new result }
+{
+    outcomes::answers::answer(attempt(area, call))
 }

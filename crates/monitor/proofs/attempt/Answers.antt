@@ -1,6 +1,6 @@
--- `monitor::perform` meets its contract: each arm makes the call that it is. Assumes nothing.
+-- `monitor::attempt` meets its contract: each arm makes the call that it is. Assumes nothing.
 use Rattle.monitor.proofs.Performs.{performs_as}
-use Rattle.monitor.proofs.perform.Goals as goal
+use Rattle.monitor.proofs.attempt.Goals as goal
 
 pub returns-in-Enter : goal.returns-in-Enter
 returns-in-Enter c = performs_as c.in-Enter.is c.enter.ensures
