@@ -23,8 +23,8 @@ impl Place {
         ensures { result ≡ record { at = at; unit = unit; span = 2 } }
     {
         Place {
-            at: at,
-            unit: unit,
+            at,
+            unit,
             span: layout::BIT,
         }
     }
