@@ -10,10 +10,9 @@ pub fn list(area: &[u16], shape: Shape, kind: u16, number: u16, buffer: &mut [u1
     requires { Held shape area.now }
     ensures { (s : State model) → Holds shape area.now s → Lists kind number shape s buffer.old buffer.new result }
 {
-    let i = moves::queue_at(shape, kind, number);
-    if i == 0 {
+    let Some(i) = moves::queue_at(shape, kind, number) else {
         return Report { code: 7, count: 0 };
-    }
+    };
     // a buffer with room for every process has room for any queue
     if buffer.len() < shape.processes as usize {
         if buffer.len() < moves::count_in(area, shape, i) as usize {
@@ -21,8 +20,5 @@ pub fn list(area: &[u16], shape: Shape, kind: u16, number: u16, buffer: &mut [u1
         }
     }
     let count = moves::copy_out(area, shape, i, buffer);
-    Report {
-        code: 0,
-        count: count,
-    }
+    Report { code: 0, count }
 }
