@@ -1,10 +1,9 @@
 -- A part of a word, and a field that takes a value, whichever it is: what the reads and writes of the crate stand on. Assumes nothing.
 use Prim.Native.Nat.{ℕ, suc, ◌+◌, ◌*◌, ◌/◌, ◌%◌, ◌^◌, ◌≤◌, ◌<◌}
 use native.Mathlib.Omega.{arith}
-use native.Mathlib.Nat.{le_trans, mod-le, mod-lt, div-le_self, div-add-mod', mul_assoc}
+use native.Mathlib.Nat.{mod-lt, div-add-mod', mul_assoc}
 use mathlib.Core.Path.{◌≡◌, refl, sym, ap, ◌∙◌, subst}
 use mathlib.Core.Bool.{Bool, true, false, cond, true≢false}
-use mathlib.Core.Logic.{◌≢◌}
 use mathlib.Core.List.{List}
 use lib.Arith.{mod-mul}
 use lib.Pow.{pow_pos}
@@ -14,14 +13,13 @@ use Rattle.model.specs.declared.Shape.{Shape}
 use Rattle.model.specs.Queue.{inside, bit}
 use Rattle.model.specs.Field.{Field, some}
 use Rattle.model.specs.Field.Field.{clock, running, priority, armed, timer, failed, abort, holder, wakeup, abortable}
-use Rattle.model.specs.Rules.{counted, ready_or_park}
+use Rattle.model.specs.Rules.{counted}
 use Rattle.model.specs.Machine.{State, model}
 use Rattle.model.specs.Valid.{room}
-use Rattle.model.proofs.Tests.{EqCase, holds, fails, eqb_case, eqb_yes, eqb_no}
 use Rattle.area.specs.declared.places.Place.{Place}
 use Rattle.area.specs.Layout.{Part, Parts, alter, Slot, home, span, at, has, Image, Stored}
 use Rattle.area.specs.Layout.Part.{kept, tail, next, locked, waiting}
-use Rattle.area.specs.Layout.Slot.{Running, Tail}
+use Rattle.area.specs.Layout.Slot.{Running}
 use Rattle.area.specs.State.{laid}
 use Rattle.area.specs.Holds.{Holds, Becomes, Takes, plain, with}
 use Rattle.area.proofs.Stores.{image_ext, within, store}
@@ -30,29 +28,18 @@ use Rattle.area.proofs.Whole.{counts_in}
 
 -- ---- addresses
 
-pub park_at : (n : Shape) (k : ℕ) → 5 + k ≡ at n (Tail (ready_or_park k))
-park_at n k = go (eqb_case k 0)
-  where
-    go : EqCase k 0 → 5 + k ≡ at n (Tail (ready_or_park k))
-    go (holds e z) = rw z (omega arith)
-    go (fails e z) = rw z (omega arith)
-
 -- the words of an area are there
 pub below : {n : Shape} {ws : List ℕ} {t : Parts} → Image n ws t → (a : Slot) {i : ℕ} → has n a ≡ true → i ≡ at n a → i < length ws
 below {n} {ws} {t} im a ok here = rw here (within n ws t im a ok)
 
 -- ---- a part of a word
 
--- it is no more than the word
-pub part_small : (w u k : ℕ) → w / u % k ≤ w
-part_small w u k = le_trans (mod-le (w / u) k) (div-le_self w u)
-
 -- a word w is what stands above a part, what the part counts, and what stands below; v takes the place of what it counts
-swapped : (w h p l v : ℕ) → h + (p + l) ≡ w → w + v < 65536 + p → (h ≤ w) × (v < 65536 + p) × (h + l + v < 65536) × (h + l + v + p ≡ w + v)
-swapped w h p l v e room = (omega arith, omega arith, omega arith, omega arith)
+swapped : (w h p l v : ℕ) → h + (p + l) ≡ w → w + v < 65536 + p → (h + l + v < 65536) × (h + l + v + p ≡ w + v)
+swapped w h p l v e room = (omega arith, omega arith)
 
 module _ (w u k x : ℕ) (hk : 0 < k) (power : (i : ℕ) × (u ≡ 2 ^ i)) where
-  pub unit_some : 0 < u
+  unit_some : 0 < u
   unit_some = rw power.1 (pow_pos power.0)
 
   split : w / (k * u) * (k * u) + (w / u % k * u + w % u) ≡ w
@@ -64,17 +51,10 @@ module _ (w u k x : ℕ) (hk : 0 < k) (power : (i : ℕ) × (u ≡ 2 ^ i)) where
       let l = mod-lt w {m = u} unit_some in
       rw (← mul_assoc (w / (k * u)) k u) (subst (λ (z : ℕ). w % u < z → bit_or (w / (k * u) * k * z) (w % u) ≡ w / (k * u) * k * z + w % u) (sym power.1) (or_shifted (w / (k * u) * k) power.0 (w % u)) l)
 
-  pub part_swapped : w + x * u < 65536 + w / u % k * u → (w / (k * u) * (k * u) ≤ w) × (x * u < 65536 + w / u % k * u) × (bit_or (w / (k * u) * (k * u)) (w % u) + x * u < 65536) × (bit_or (w / (k * u) * (k * u)) (w % u) + x * u + w / u % k * u ≡ w + x * u)
+  pub part_swapped : w + x * u < 65536 + w / u % k * u → (bit_or (w / (k * u) * (k * u)) (w % u) + x * u < 65536) × (bit_or (w / (k * u) * (k * u)) (w % u) + x * u + w / u % k * u ≡ w + x * u)
   part_swapped room = rw apart (swapped w (w / (k * u) * (k * u)) (w / u % k * u) (w % u) (x * u) split room)
 
 -- ---- writes
-
--- the bit of 0, and of any other number
-pub bit_clear : {v : ℕ} → v ≡ 0 → (◌≡◌ {A = ℕ} 0 (bit (some v))) × (0 < 2)
-bit_clear {v} e = (rw (eqb_yes v 0 e), omega arith)
-
-pub bit_set : {v : ℕ} → v ≢ 0 → (◌≡◌ {A = ℕ} 1 (bit (some v))) × (1 < 2)
-bit_set {v} h = (rw (eqb_no v 0 h), omega arith)
 
 -- a field that the counts give has no more values than its bits, and any other is 0
 pub room_span : (n : Shape) → counted n ≡ true → (f : Field) → room n f ≤ cond (has n (home (kept f))) (span (kept f)) 1

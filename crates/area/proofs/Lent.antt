@@ -4,12 +4,11 @@ use native.Mathlib.Omega.{arith}
 use mathlib.Core.Path.{◌≡◌, refl, sym, ap, ◌∙◌}
 use mathlib.Core.Bool.{true}
 use mathlib.Core.List.{List, [], ◌∷◌, ◌++◌}
-use lib.ListN.{length, get_or, set, length-append}
+use lib.ListN.{length, get_or, set}
 use lib.Seq.{get_or-append-add}
 use Rattle.model.specs.declared.Shape.{Shape}
 use Rattle.model.specs.Queue.{inside}
 use Rattle.model.specs.Field.Field.{priority, timer}
-use Rattle.model.proofs.Tests.{inside_bounds}
 use Rattle.links.specs.Link.{slot}
 use Rattle.area.specs.Layout.{Part, Parts, alter, unit, span, home, has, at, records_at, Lies, Flag, Image, Stored}
 use Rattle.area.specs.Layout.Part.{kept}
@@ -22,10 +21,6 @@ set_behind (x ∷ xs) ys j v =
     ap (λ i. set (x ∷ (xs ++ ys)) i v) (let e : length (x ∷ xs) + j ≡ suc (length xs + j) = omega arith in e) ∙ ap (λ (l : List ℕ). x ∷ l) (set_behind xs ys j v)
 
 module _ {n : Shape} (front r : List ℕ) {t : Parts} (fits : length front ≡ records_at n) (im : Image n (front ++ r) t) where
-  -- p's words are there
-  pub lent_within : (p : ℕ) → inside n.processes p ≡ true → (1 ≤ p) × (p * 3 ≤ length r)
-  lent_within p h = let b = inside_bounds n.processes p h in (b.0, omega (arith, im.long, length-append front r, b.1))
-
   lent_word : (j i : ℕ) → i ≡ records_at n + j → get_or (front ++ r) i 0 ≡ get_or r j 0
   lent_word j i e = ap (λ k. get_or (front ++ r) k 0) (let k : i ≡ length front + j = omega arith in k) ∙ get_or-append-add front r j 0
 
@@ -39,10 +34,10 @@ module _ {n : Shape} (front r : List ℕ) {t : Parts} (fits : length front ≡ r
       (store n (front ++ r) t im f x (records_at n + j) ok small (sym here) u k v (get_or r j 0) eu ek (sym (lent_word j (records_at n + j) refl)) e)
 
   module _ {p : ℕ} (h : inside n.processes p ≡ true) where
-    pub lent_calm : Stored n (front ++ r) (front ++ set r (slot p + 2) 0) (alter (kept (timer p)) 0 t)
-    lent_calm =
+    pub lent_calm : (j : ℕ) → j ≡ slot p + 2 → Stored n (front ++ r) (front ++ set r j 0) (alter (kept (timer p)) 0 t)
+    lent_calm j here =
         let w : get_or r (slot p + 2) 0 < 65536 = rw (lent_timer h) (im.spans (kept (timer p)) h) in
-        lent_store (kept (timer p)) 0 (slot p + 2) 0 1 65536 h (omega arith) (omega arith) refl refl (omega arith)
+        rw here (lent_store (kept (timer p)) 0 (slot p + 2) 0 1 65536 h (omega arith) (omega arith) refl refl (omega arith))
 
     -- a bit of the flags takes a value, for which the word has room
     module _ (f : Part) {u x : ℕ} (F : Flag p f u) (small : x < 2) where

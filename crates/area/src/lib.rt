@@ -44,25 +44,25 @@ pub fn shape_of(area: &[u16]) -> Shape
 pub fn locks_at(shape: Shape) -> usize
     ensures { result ≡ locks_at shape }
 {
-    HEAD + shape.parks as usize
+    HEAD + usize::from(shape.parks)
 }
 
 pub fn conditions_at(shape: Shape) -> usize
     ensures { result ≡ conditions_at shape }
 {
-    locks_at(shape) + LOCK * shape.locks as usize
+    locks_at(shape) + LOCK * usize::from(shape.locks)
 }
 
 pub fn records_at(shape: Shape) -> usize
     ensures { result ≡ records_at shape }
 {
-    conditions_at(shape) + shape.conditions as usize
+    conditions_at(shape) + usize::from(shape.conditions)
 }
 
 pub fn size_of(shape: Shape) -> usize
     ensures { result ≡ size shape }
 {
-    records_at(shape) + RECORD * shape.processes as usize
+    records_at(shape) + RECORD * usize::from(shape.processes)
 }
 
 // Where the tail of ready stands.
@@ -76,7 +76,7 @@ pub fn ready_at() -> usize
 pub fn park_at(k: u16) -> usize
     ensures { (n : Shape) → result ≡ at n (Tail (ready_or_park k)) }
 {
-    READY + k as usize
+    READY + usize::from(k)
 }
 
 // Where the tail of lock l stands.
@@ -84,7 +84,7 @@ pub fn lock_at(shape: Shape, l: u16) -> usize
     requires { inside shape.locks l ≡ true }
     ensures { result ≡ at shape (Tail (lock l)) }
 {
-    locks_at(shape) + LOCK * (l as usize - 1)
+    locks_at(shape) + LOCK * (usize::from(l) - 1)
 }
 
 // Where the tail of condition c stands.
@@ -92,7 +92,7 @@ pub fn condition_at(shape: Shape, c: u16) -> usize
     requires { inside shape.conditions c ≡ true }
     ensures { result ≡ at shape (Tail (condition c)) }
 {
-    conditions_at(shape) + (c as usize - 1)
+    conditions_at(shape) + (usize::from(c) - 1)
 }
 
 // Where the record of process p begins.
@@ -100,7 +100,7 @@ fn record_at(shape: Shape, p: u16) -> usize
     requires { inside shape.processes p ≡ true }
     ensures { result ≡ at shape (Link p) }
 {
-    records_at(shape) + (p as usize - 1) * RECORD
+    records_at(shape) + (usize::from(p) - 1) * RECORD
 }
 
 // ---- a part of a word
@@ -110,7 +110,7 @@ fn part_of(word: u16, unit: u16, span: u32) -> u16
     requires { (0 < unit) × (0 < span) }
     ensures { result ≡ word / unit % span }
 {
-    ((word / unit) as u32 % span) as u16
+    (u32::from(word / unit) % span) as u16
 }
 
 // The word with another value of that part, and every other bit as it was.
@@ -118,10 +118,10 @@ fn with_part(word: u16, unit: u16, span: u32, value: u16) -> u16
     requires { (0 < span) × (span * unit ≤ 65536) × ((i : ℕ) × (unit ≡ 2 ^ i)) × (word + value * unit < 65536 + word / unit % span * unit) }
     ensures { result + word / unit % span * unit ≡ word + value * unit }
 {
-    let above = span * unit as u32;
-    let high = word as u32 / above * above;
-    let low = (word % unit) as u32;
-    ((high | low) + value as u32 * unit as u32) as u16
+    let above = span * u32::from(unit);
+    let high = u32::from(word) / above * above;
+    let low = u32::from(word % unit);
+    ((high | low) + u32::from(value) * u32::from(unit)) as u16
 }
 
 // ---- reads and writes
@@ -185,10 +185,7 @@ pub fn put(area: &mut [u16], place: Place, value: u16)
 pub fn bit_of(v: u16) -> u16
     ensures { (result ≡ bit (some v)) × (result < 2) }
 {
-    if v == 0 {
-        return 0;
-    }
-    1
+    u16::from(v != 0)
 }
 
 // The lock's holder, and with it its locked bit.
@@ -218,7 +215,7 @@ pub fn set_rank(records: &mut [u16], p: u16, v: u16)
     requires v_bound { v < 8 }
     ensures { (n : Shape) (front : List ℕ) (t : Parts) → length front ≡ records_at n → Image n (front ++ records.old) t → inside n.processes p ≡ true → Stored n (front ++ records.old) (front ++ records.new) (alter (kept (priority p)) v t) }
 {
-    let at = (p as usize - 1) * RECORD;
+    let at = (usize::from(p) - 1) * RECORD;
     let link = records[at];
     records[at] = with_part(link, links::PRIORITY, links::PRIORITIES as u32, v);
 }
@@ -229,7 +226,7 @@ fn set_flag(records: &mut [u16], p: u16, unit: u16, value: u16)
     requires value_bound { value < 2 }
     ensures { (n : Shape) (front : List ℕ) (t : Parts) (f : Part) → length front ≡ records_at n → Image n (front ++ records.old) t → inside n.processes p ≡ true → Flag p f unit → Stored n (front ++ records.old) (front ++ records.new) (alter f value t) }
 {
-    let at = (p as usize - 1) * RECORD + links::FLAGS;
+    let at = (usize::from(p) - 1) * RECORD + links::FLAGS;
     let flags = records[at];
     records[at] = with_part(flags, unit, layout::BIT, value);
 }
@@ -248,7 +245,7 @@ pub fn set_awake(records: &mut [u16], p: u16)
     requires { (n : Shape) × (front : List ℕ) × (t : Parts) × (length front ≡ records_at n) × Image n (front ++ records.old) t × (inside n.processes p ≡ true) }
     ensures { (n : Shape) (front : List ℕ) (t : Parts) → length front ≡ records_at n → Image n (front ++ records.old) t → inside n.processes p ≡ true → Stored n (front ++ records.old) (front ++ records.new) (alter (waiting p) 0 (alter (kept (armed p)) 0 (alter (kept (timer p)) 0 t))) }
 {
-    let at = (p as usize - 1) * RECORD + links::TIMER;
+    let at = (usize::from(p) - 1) * RECORD + links::TIMER;
     records[at] = 0;
     set_flag(records, p, links::ARMED, 0);
     set_waiting(records, p, 0);

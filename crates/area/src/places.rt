@@ -17,6 +17,19 @@ pub struct Place {
     pub span: u32,
 }
 
+impl Place {
+    // One bit of a word.
+    fn bit(at: usize, unit: u16) -> Place
+        ensures { result ≡ record { at = at; unit = unit; span = 2 } }
+    {
+        Place {
+            at,
+            unit,
+            span: layout::BIT,
+        }
+    }
+}
+
 pub fn clock() -> Place
     ensures { (n : Shape) → Lies n (kept Field.clock) result }
 {
@@ -31,22 +44,14 @@ pub fn failed(shape: Shape, p: u16) -> Place
     requires { inside shape.processes p ≡ true }
     ensures { Lies shape (kept (Field.failed p)) result }
 {
-    Place {
-        at: record_at(shape, p),
-        unit: layout::FAILED,
-        span: layout::BIT,
-    }
+    Place::bit(record_at(shape, p), layout::FAILED)
 }
 
 pub fn armed(shape: Shape, p: u16) -> Place
     requires { inside shape.processes p ≡ true }
     ensures { Lies shape (kept (Field.armed p)) result }
 {
-    Place {
-        at: record_at(shape, p) + links::FLAGS,
-        unit: links::ARMED,
-        span: layout::BIT,
-    }
+    Place::bit(record_at(shape, p) + links::FLAGS, links::ARMED)
 }
 
 pub fn timer(shape: Shape, p: u16) -> Place
@@ -64,22 +69,14 @@ pub fn abort(shape: Shape, p: u16) -> Place
     requires { inside shape.processes p ≡ true }
     ensures { Lies shape (kept (Field.abort p)) result }
 {
-    Place {
-        at: record_at(shape, p) + links::FLAGS,
-        unit: layout::ABORT,
-        span: layout::BIT,
-    }
+    Place::bit(record_at(shape, p) + links::FLAGS, layout::ABORT)
 }
 
 pub fn locked(shape: Shape, l: u16) -> Place
     requires { inside shape.locks l ≡ true }
     ensures { Lies shape (Part.locked l) result }
 {
-    Place {
-        at: lock_at(shape, l),
-        unit: layout::LOCKED,
-        span: layout::BIT,
-    }
+    Place::bit(lock_at(shape, l), layout::LOCKED)
 }
 
 pub fn holder(shape: Shape, l: u16) -> Place
@@ -97,20 +94,12 @@ pub fn wakeup(shape: Shape, c: u16) -> Place
     requires { inside shape.conditions c ≡ true }
     ensures { Lies shape (kept (Field.wakeup c)) result }
 {
-    Place {
-        at: condition_at(shape, c),
-        unit: layout::WAKEUP,
-        span: layout::BIT,
-    }
+    Place::bit(condition_at(shape, c), layout::WAKEUP)
 }
 
 pub fn abortable(shape: Shape, c: u16) -> Place
     requires { inside shape.conditions c ≡ true }
     ensures { Lies shape (kept (Field.abortable c)) result }
 {
-    Place {
-        at: condition_at(shape, c),
-        unit: layout::ABORTABLE,
-        span: layout::BIT,
-    }
+    Place::bit(condition_at(shape, c), layout::ABORTABLE)
 }

@@ -8,7 +8,7 @@ use mathlib.Core.Bool.{true, false, true≢false}
 use mathlib.Core.Logic.{◌≢◌}
 use mathlib.Core.List.{List, ◌∷◌, ◌++◌}
 use lib.Dec.{eqb}
-use lib.ListN.{length, get_or, drop, take, set, length-append, take-append-drop}
+use lib.ListN.{length, get_or, drop, take, set, take-append-drop}
 use lib.Seq.{drop-set-lt, length-take-le, drop-append_seam, set-get_or}
 use Rattle.model.specs.declared.Shape.{Shape}
 use Rattle.model.specs.Queue.{Queue, inside, exists, member, remove, insert, Falling}
@@ -43,14 +43,6 @@ tail_front n ready h = omega arith
 tail_front n (park k) h = omega (arith, inside_bounds n.parks k h)
 tail_front n (lock l) h = omega (arith, inside_bounds n.locks l h)
 tail_front n (condition c) h = omega (arith, inside_bounds n.conditions c h)
-
--- so it is in the area, whatever the records become
-pub tail_below : {n : Shape} {ws : List ℕ} {t : Parts} {qs : Queue → List ℕ} (q : Queue) {i : ℕ} → Rings n ws t qs → exists n q ≡ true → i ≡ at n (Tail q) → i < length ws
-tail_below {n} q R given here = let k = tail_front n q given in omega (arith, R.image.long)
-
-pub tail_again : {n : Shape} {ws : List ℕ} {t : Parts} {qs : Queue → List ℕ} (q : Queue) {i : ℕ} (a : ℕ) (r : List ℕ) → Rings n ws t qs → exists n q ≡ true → i ≡ at n (Tail q) → a ≡ records_at n → i < length (put_mid a (length ws - a) ws r)
-tail_again {n} {ws} q {i} a r R given here e =
-    rw (part_back a ws r) (simp length-append (let k = tail_front n q given in let l = length-take-le a ws (omega (arith, R.image.long)) in omega arith))
 
 module _ (n : Shape) (ws : List ℕ) (t : Parts) (qs : Queue → List ℕ) (q : Queue) (R : Rings n ws t qs) (given : exists n q ≡ true) where
   -- the records when they are back, and the tail word after that

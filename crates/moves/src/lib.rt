@@ -1,13 +1,13 @@
 // The queues of an area, as rings in its records: reads of one, and the move of a process from one to another. Assumes nothing.
 #![tactic(auto)]
 
-ghost use Rattle.std.specs.Prelude.{◌≡◌, true, cond, ◌++◌, ◌<◌, ◌≤◌, length, drop};
+ghost use Rattle.std.specs.Prelude.{◌≡◌, true, cond, Some, None, ◌++◌, ◌<◌, ◌≤◌, length, drop};
 ghost use Rattle.model.specs.declared.Shape.{Shape};
-ghost use Rattle.model.specs.Queue.{Queue, exists, queue_by, is_queue, member, ahead_of, remove, insert, first};
+ghost use Rattle.model.specs.Queue.{Queue, inside, exists, queue_by, is_queue, member, ahead_of, remove, insert, first};
 ghost use Rattle.model.specs.Queue.Queue.{ready};
 ghost use Rattle.model.specs.Field.Field.{priority};
 ghost use Rattle.model.specs.Machine.{State, model};
-ghost use Rattle.ring.specs.Ring.{Arrived};
+ghost use Rattle.ring.specs.Ring.{Arrived, Ring};
 ghost use Rattle.area.specs.Layout.{at, records_at};
 ghost use Rattle.area.specs.Layout.Slot.{Tail};
 ghost use Rattle.area.specs.State.{last};
@@ -19,38 +19,34 @@ use ring::Arrival;
 
 // ---- reads
 
-// Where the tail of the queue of a kind and a number stands, 0 if there is no such queue.
-pub fn queue_at(shape: Shape, kind: u16, number: u16) -> usize
-    ensures { result ≡ cond (is_queue shape kind number) (at shape (Tail (queue_by kind number))) 0 }
+// Whether a number is one of 1 to `most`.
+fn inside(most: u16, number: u16) -> bool
+    ensures { result ≡ inside most number }
 {
-    if kind == 0 {
-        if number != 0 {
-            return 0;
-        }
-        return area::ready_at();
+    (1..=most).contains(&number)
+}
+
+// Where the tail of the queue of a kind and a number stands, if there is such a queue.
+pub fn queue_at(shape: Shape, kind: u16, number: u16) -> Option<usize>
+    ensures { result ≡ cond (is_queue shape kind number) (Some (at shape (Tail (queue_by kind number)))) None }
+{
+    match kind {
+        0 if number == 0 => Some(area::ready_at()),
+        1 if inside(shape.parks, number) => Some(area::park_at(number)),
+        2 if inside(shape.locks, number) => Some(area::lock_at(shape, number)),
+        3 if inside(shape.conditions, number) => Some(area::condition_at(shape, number)),
+        _ => None,
     }
-    if number == 0 {
-        return 0;
-    }
-    if kind == 1 {
-        if number > shape.parks {
-            return 0;
-        }
-        return area::park_at(number);
-    }
-    if kind == 2 {
-        if number > shape.locks {
-            return 0;
-        }
-        return area::lock_at(shape, number);
-    }
-    if kind == 3 {
-        if number > shape.conditions {
-            return 0;
-        }
-        return area::condition_at(shape, number);
-    }
-    0
+}
+
+// The ring of the queue whose tail stands at i: the records, and its last.
+fn ring_at(area: &[u16], shape: Shape, i: usize) -> (&[u16], u16)
+    requires held { Held shape area.now }
+    requires q_value { (q : Queue) × (exists shape q ≡ true) × (i ≡ at shape (Tail q)) }
+    ensures { (s : State model) (q : Queue) → Holds shape area.now s → exists shape q ≡ true → i ≡ at shape (Tail q) → Ring result.0.now result.1 (s.queues q) }
+{
+    let at = area::records_at(shape);
+    (&area[at..], links::next_field(area[i]))
 }
 
 // The first of the queue whose tail stands at i, 0 if it is empty.
@@ -59,9 +55,8 @@ pub fn first_in(area: &[u16], shape: Shape, i: usize) -> u16
     requires q_value { (q : Queue) × (exists shape q ≡ true) × (i ≡ at shape (Tail q)) }
     ensures { (s : State model) (q : Queue) → Holds shape area.now s → exists shape q ≡ true → i ≡ at shape (Tail q) → result ≡ first (s.queues q) }
 {
-    let at = area::records_at(shape);
-    let tail = links::next_field(area[i]);
-    ring::first_of(&area[at..], tail)
+    let (records, tail) = ring_at(area, shape, i);
+    ring::first_of(records, tail)
 }
 
 // The last of the queue whose tail stands at i, 0 if it is empty.
@@ -79,9 +74,8 @@ pub fn count_in(area: &[u16], shape: Shape, i: usize) -> u16
     requires q_value { (q : Queue) × (exists shape q ≡ true) × (i ≡ at shape (Tail q)) }
     ensures { (s : State model) (q : Queue) → Holds shape area.now s → exists shape q ≡ true → i ≡ at shape (Tail q) → result ≡ length (s.queues q) }
 {
-    let at = area::records_at(shape);
-    let tail = links::next_field(area[i]);
-    ring::length_of(&area[at..], tail)
+    let (records, tail) = ring_at(area, shape, i);
+    ring::length_of(records, tail)
 }
 
 // Writes the queue whose tail stands at i to the front of out, the first of it first. The answer is how many.
@@ -89,9 +83,8 @@ pub fn copy_out(area: &[u16], shape: Shape, i: usize, out: &mut [u16]) -> u16
     requires { (s : State model) × (q : Queue) × Holds shape area.now s × (exists shape q ≡ true) × (i ≡ at shape (Tail q)) × (length (s.queues q) ≤ length out.old) }
     ensures { (s : State model) (q : Queue) → Holds shape area.now s → exists shape q ≡ true → i ≡ at shape (Tail q) → (result ≡ length (s.queues q)) × (out.new ≡ s.queues q ++ drop (length (s.queues q)) out.old) }
 {
-    let at = area::records_at(shape);
-    let tail = links::next_field(area[i]);
-    ring::write_out(&area[at..], tail, out)
+    let (records, tail) = ring_at(area, shape, i);
+    ring::write_out(records, tail, out)
 }
 
 // ---- moves; the records begin at base

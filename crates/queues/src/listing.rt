@@ -17,13 +17,12 @@ pub fn list(
     requires { Held shape area.now }
     ensures { (s : State model) → Holds shape area.now s → Lists kind number shape s buffer.old buffer.new (report_in result) }
 {
-    let i = moves::queue_at(shape, kind, number);
-    if i == 0 {
+    let Some(i) = moves::queue_at(shape, kind, number) else {
         return Err(Refusal::NoSuch);
-    }
+    };
     // a buffer with room for every process has room for any queue
     let room = buffer.len();
-    if room < shape.processes as usize && room < moves::count_in(area, shape, i) as usize {
+    if room < usize::from(shape.processes) && room < usize::from(moves::count_in(area, shape, i)) {
         return Err(Refusal::Short);
     }
     Ok(moves::copy_out(area, shape, i, buffer))

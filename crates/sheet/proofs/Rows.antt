@@ -10,7 +10,7 @@ use mathlib.Core.List.{List}
 use lib.ListN.{length, length-append}
 use borrow.Author.Tests.{eqb-true}
 use Rattle.model.specs.declared.Shape.{Shape}
-use Rattle.model.specs.Queue.{Queue, inside, kind_of, number_of, queue_by, is_queue}
+use Rattle.model.specs.Queue.{Queue, inside, number_of, queue_by, is_queue}
 use Rattle.model.specs.Queue.Queue.{ready, park, lock, condition}
 use Rattle.model.specs.Field.Field.{holder, wakeup}
 use Rattle.model.specs.Machine.{State, model}
@@ -56,14 +56,7 @@ module _ (s : State model) where
 
 -- ---- the queue of a kind and a number
 
--- its kind and its number; ready has the number 0
-pub kind_said : (n : Shape) (kind i : ℕ) → is_queue n kind i ≡ true → kind ≡ kind_of (queue_by kind i)
-kind_said n zero i t = refl
-kind_said n (suc zero) i t = refl
-kind_said n (suc (suc zero)) i t = refl
-kind_said n (suc (suc (suc zero))) i t = refl
-kind_said n (suc (suc (suc (suc k)))) i t = absurd (false≢true t)
-
+-- its number; ready has the number 0
 pub number_said : (n : Shape) (kind i : ℕ) → is_queue n kind i ≡ true → i ≡ number_of (queue_by kind i)
 number_said n zero i t = eqb-true i 0 t
 number_said n (suc zero) i t = refl

@@ -47,10 +47,10 @@ fn row_of(area: &[u16], shape: Shape, kind: u16, number: u16) -> Row
     requires number_value { is_queue shape kind number ≡ true }
     ensures { (s : State model) → Holds shape area.now s → result ≡ row_of s (queue_by kind number) }
 {
-    let i = moves::queue_at(shape, kind, number);
+    let i = moves::queue_at(shape, kind, number).unwrap();
     Row {
-        kind: kind,
-        number: number,
+        kind,
+        number,
         count: moves::count_in(area, shape, i),
         first: moves::first_in(area, shape, i),
         last: moves::last_in(area, shape, i),

@@ -1,17 +1,17 @@
 -- Start's codes and words: cleared, and with the counts written, the words are those of the fresh fields with nobody in a queue; when the area has
 -- lined everybody up they are the ones that the started state prescribes. Assumes nothing.
 use Prim.Native.Nat.{ℕ, zero, suc, ◌+◌, ◌*◌, ◌≤◌, ◌<◌}
-use native.Mathlib.Numerals.{add-one}
-use native.Mathlib.Decide.{ℕ_discrete}
 use native.Mathlib.Omega.{arith}
 use mathlib.Core.Path.{◌≡◌, refl, sym, ap, ◌∙◌, subst}
-use mathlib.Core.Bool.{true, false, not, and-false, or-true}
+use mathlib.Core.Bool.{true, false, ◌||◌}
 use mathlib.Core.Logic.{◌≢◌}
-use mathlib.Core.List.{List, [], ◌∷◌}
-use lib.Dec.{leb, ltb}
-use lib.ListN.{length, get_or, drop, set, length-set, drop_of_length-le}
-use lib.Seq.{get_or-set_same, get_or-set_other, drop-cons, drop-set-lt}
+use mathlib.Core.List.{List, [], ◌∷◌, ◌++◌}
+use lib.Dec.{ltb}
+use lib.ListN.{length, get_or, drop, take, set, replicate, length-set, length-append, length-drop, get_or-append}
+use lib.Seq.{get_or-set_same, get_or-set_other, drop-set-lt, length-take-le}
 use borrow.Author.Tests.{lt-ltb, le-ltb, eq-eqb, ne_eqb}
+use Rattle.std.specs.List.{list_any}
+use Rattle.std.proofs.lemmas.List.{length-replicate, get_or-replicate, drop_at}
 use Rattle.model.specs.declared.Shape.{Shape}
 use Rattle.model.specs.declared.Answer.{Answer}
 use Rattle.model.specs.Queue.{Queue, any_of}
@@ -20,7 +20,6 @@ use Rattle.model.specs.Field.{Field}
 use Rattle.model.specs.Field.Field.{clock, running, priority, armed, timer, failed, abort, holder, wakeup, abortable}
 use Rattle.model.specs.Rules.{counted, any_above, start_code, fresh}
 use Rattle.model.specs.Machine.{model, start, refusal}
-use Rattle.model.proofs.Tests.{holds, fails, LeCase, leb_case}
 use Rattle.area.specs.Layout.{Part, Parts, Slot, word, span, size, at, has, Stored}
 use Rattle.area.specs.Layout.Part.{kept, tail, next, locked, waiting}
 use Rattle.area.specs.Layout.Slot.{Processes, LocksConditions, Parks, Clock, Running, Tail, Holder, Link, Flags, Timer}
@@ -33,38 +32,10 @@ use Rattle.area.proofs.Whole.{stored_write}
 
 -- ---- codes
 
-module _ (n : Shape) where
-  pub no_process : n.processes ≡ 0 → false ≡ counted n
-  no_process e = rw (eq-eqb n.processes 0 e)
-
-  pub many_processes : 1023 < n.processes → false ≡ counted n
-  many_processes h = rw (lt-ltb 1023 n.processes h, or-true)
-
-  pub many_locks : 255 < n.locks → false ≡ counted n
-  many_locks h = rw (lt-ltb 255 n.locks h, and-false)
-
-  pub many_conditions : 255 < n.conditions → false ≡ counted n
-  many_conditions h = rw (lt-ltb 255 n.conditions h, and-false)
-
-  -- the parks decide where the other counts are in range
-  pub parks_last : n.processes ≢ 0 → n.processes ≤ 1023 → n.locks ≤ 255 → n.conditions ≤ 255 → leb n.parks 8 ≡ counted n
-  parks_last p q l c =
-      rw (ne_eqb n.processes 0 p, le-ltb 1023 n.processes q, le-ltb 255 n.locks l, le-ltb 255 n.conditions c) (go (leb_case n.parks 8))
-    where
-      go : LeCase n.parks 8 → leb n.parks 8 ≡ not (ltb 8 n.parks)
-      go (holds d z) = rw (z, le-ltb 8 n.parks d)
-      go (fails d z) = rw (z, lt-ltb 8 n.parks d)
-
--- a search for a priority above 7 that has passed i of them
-module _ (bytes : List ℕ) (i : ℕ) (inv : any_above 7 (drop i bytes) ≡ any_above 7 bytes) where
-  pub above_here : i < length bytes → 7 < get_or bytes i 0 → true ≡ any_above 7 bytes
-  above_here h k = rw (← inv, drop-cons bytes i 0 h, lt-ltb 7 (get_or bytes i 0) k)
-
-  pub above_on : i < length bytes → get_or bytes i 0 ≤ 7 → any_above 7 (drop (i + 1) bytes) ≡ any_above 7 bytes
-  above_on h k = rw (← inv, drop-cons bytes i 0 h, le-ltb 7 (get_or bytes i 0) k, add-one i)
-
-  pub above_none : length bytes ≤ i → false ≡ any_above 7 bytes
-  above_none h = rw (← inv, drop_of_length-le bytes h)
+-- the rule's search for a priority is the library's
+pub any_is : (m : ℕ) (bytes : List ℕ) → list_any (ltb m) bytes ≡ any_above m bytes
+any_is m [] = refl
+any_is m (x ∷ xs) = ap (λ b. ltb m x || b) (any_is m xs)
 
 module _ (n : Shape) (bytes : List ℕ) where
   pub code_counts : counted n ≡ false → 2 ≡ start_code n bytes
@@ -78,28 +49,6 @@ module _ (n : Shape) (bytes : List ℕ) where
 
   pub code_none : counted n ≡ true → length bytes ≡ n.processes → any_above 7 bytes ≡ false → 0 ≡ start_code n bytes
   code_none e h a = rw (e, eq-eqb (length bytes) n.processes h, a)
-
--- ---- the area cleared
-
--- of so many words the first i are 0, and those beyond are as they were
-pub record Cleared (words : ℕ) (old : List ℕ) (i : ℕ) (new : List ℕ) : Type 0 where
-  pub long : length new ≡ length old
-  pub zeros : (k : ℕ) → k < i → get_or new k 0 ≡ 0
-  pub beyond : drop words new ≡ drop words old
-
-pub clear_start : (words : ℕ) (old : List ℕ) → Cleared words old 0 old
-clear_start words old = record { long = refl; zeros = λ k h. absurd (omega arith); beyond = refl }
-
-pub clear_on : {words i : ℕ} {old new : List ℕ} → words ≤ length old → i < words → Cleared words old i new → Cleared words old (i + 1) (set new i 0)
-clear_on {words} {i} {old} {new} h k c = record {
-  long = length-set new i 0 ∙ c.long;
-  zeros = λ j l. zeros_at j l (ℕ_discrete j i);
-  beyond = drop-set-lt words new i 0 k ∙ c.beyond;
-}
-  where
-    zeros_at : (j : ℕ) → j < i + 1 → Dec (j ≡ i) → get_or (set new i 0) j 0 ≡ 0
-    zeros_at j l (yes e) = rw e (get_or-set_same new i 0 0 (omega (arith, c.long)))
-    zeros_at j l (no e) = get_or-set_other new i j 0 0 e ∙ c.zeros j (omega arith)
 
 -- ---- nobody in a queue
 
@@ -147,28 +96,41 @@ span_some (next p) = omega arith
 span_some (locked l) = omega arith
 span_some (waiting p) = omega arith
 
--- the three words of the counts in a cleared area
-module _ (n : Shape) (old ws : List ℕ) (a b c words : ℕ) (counts : counted n ≡ true) (long : size n ≤ length ws) (whole : words ≡ size n)
-    (zeros : (i : ℕ) → i < words → get_or ws i 0 ≡ 0) (beyond : drop words ws ≡ drop words old)
-    (ea : a ≡ n.processes) (eb : b ≡ n.locks * 256 + n.conditions) (ec : c ≡ n.parks * 4096) where
+-- the three words of the counts in an area whose first words are filled with 0
+module _ (n : Shape) (old zeros : List ℕ) (words : ℕ) (counts : counted n ≡ true) (fits : size n ≤ length old) (whole : words ≡ size n)
+    (filled : zeros ≡ replicate (length (take words old)) 0) where
+  abbrev ws : List ℕ
+  ws = zeros ++ drop words old
+
+  zeros_long : length zeros ≡ words
+  zeros_long = ap length filled ∙ length-replicate (length (take words old)) 0 ∙ length-take-le words old (omega arith)
+
+  long : size n ≤ length ws
+  long = simp (length-append, length-drop) (omega (arith, zeros_long))
+
+  zero_at : (i : ℕ) → i < words → get_or ws i 0 ≡ 0
+  zero_at i h =
+      get_or-append zeros (drop words old) 0 i (omega (arith, zeros_long)) ∙ ap (λ (xs : List ℕ). get_or xs i 0) filled
+      ∙ get_or-replicate (length (take words old)) i 0 0 (omega (arith, length-take-le words old (omega arith)))
+
   abbrev counted_out : List ℕ
-  counted_out = set (set (set ws 0 a) 1 b) 2 c
+  counted_out = set (set (set ws 0 n.processes) 1 (n.locks * 256 + n.conditions)) 2 (n.parks * 4096)
 
   apart : (i : ℕ) → 3 ≤ i → get_or counted_out i 0 ≡ get_or ws i 0
   apart i h =
-      get_or-set_other (set (set ws 0 a) 1 b) 2 i c 0 (omega arith)
-      ∙ get_or-set_other (set ws 0 a) 1 i b 0 (omega arith) ∙ get_or-set_other ws 0 i a 0 (omega arith)
+      get_or-set_other (set (set ws 0 n.processes) 1 (n.locks * 256 + n.conditions)) 2 i (n.parks * 4096) 0 (omega arith)
+      ∙ get_or-set_other (set ws 0 n.processes) 1 i (n.locks * 256 + n.conditions) 0 (omega arith) ∙ get_or-set_other ws 0 i n.processes 0 (omega arith)
 
   none_at : (s : Slot) → has n s ≡ true → 3 ≤ at n s → get_or counted_out (at n s) 0 ≡ 0
-  none_at s h k = apart (at n s) k ∙ zeros (at n s) (let b = at_below n s h in omega arith)
+  none_at s h k = apart (at n s) k ∙ zero_at (at n s) (let b = at_below n s h in omega arith)
 
   words_at : (s : Slot) → has n s ≡ true → get_or counted_out (at n s) 0 ≡ word n (λ f. 0) s
   words_at Processes h =
-      get_or-set_other (set (set ws 0 a) 1 b) 2 0 c 0 (omega arith) ∙ get_or-set_other (set ws 0 a) 1 0 b 0 (omega arith)
-      ∙ get_or-set_same ws 0 a 0 (omega arith) ∙ ea
+      get_or-set_other (set (set ws 0 n.processes) 1 (n.locks * 256 + n.conditions)) 2 0 (n.parks * 4096) 0 (omega arith) ∙ get_or-set_other (set ws 0 n.processes) 1 0 (n.locks * 256 + n.conditions) 0 (omega arith)
+      ∙ get_or-set_same ws 0 n.processes 0 (omega (arith, long))
   words_at LocksConditions h =
-      get_or-set_other (set (set ws 0 a) 1 b) 2 1 c 0 (omega arith) ∙ get_or-set_same (set ws 0 a) 1 b 0 (simp length-set (omega arith)) ∙ eb
-  words_at Parks h = get_or-set_same (set (set ws 0 a) 1 b) 2 c 0 (simp length-set (omega arith)) ∙ ec
+      get_or-set_other (set (set ws 0 n.processes) 1 (n.locks * 256 + n.conditions)) 2 1 (n.parks * 4096) 0 (omega arith) ∙ get_or-set_same (set ws 0 n.processes) 1 (n.locks * 256 + n.conditions) 0 (simp length-set (omega (arith, long)))
+  words_at Parks h = get_or-set_same (set (set ws 0 n.processes) 1 (n.locks * 256 + n.conditions)) 2 (n.parks * 4096) 0 (simp length-set (omega (arith, long)))
   words_at Clock h = none_at Clock h (omega arith)
   words_at Running h = none_at Running h (omega arith)
   words_at (Tail ready) h = none_at (Tail ready) h (omega arith)
@@ -185,8 +147,8 @@ module _ (n : Shape) (old ws : List ℕ) (a b c words : ℕ) (counts : counted n
     image = image_ext n counted_out (λ f. 0) (laid n (lined [] 0))
         record { counts = counts; long = simp length-set long; words = words_at; spans = λ f h. span_some f } (λ f h. laid_none n f);
     beyond =
-        drop-set-lt (size n) (set (set ws 0 a) 1 b) 2 c (omega arith) ∙ drop-set-lt (size n) (set ws 0 a) 1 b (omega arith)
-        ∙ drop-set-lt (size n) ws 0 a (omega arith) ∙ subst (λ (k : ℕ). drop k ws ≡ drop k old) whole beyond;
+        drop-set-lt (size n) (set (set ws 0 n.processes) 1 (n.locks * 256 + n.conditions)) 2 (n.parks * 4096) (omega arith) ∙ drop-set-lt (size n) (set ws 0 n.processes) 1 (n.locks * 256 + n.conditions) (omega arith)
+        ∙ drop-set-lt (size n) ws 0 n.processes (omega arith) ∙ subst (λ (k : ℕ). drop k ws ≡ drop k old) whole (drop_at zeros (drop words old) words zeros_long);
   }
 
 -- ---- Start

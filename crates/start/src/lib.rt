@@ -20,40 +20,17 @@ use outcomes::answers;
 fn in_range(shape: Shape) -> bool
     ensures { result ≡ counted shape }
 {
-    if shape.processes == 0 {
-        return false;
-    }
-    if shape.processes > layout::MOST_PROCESSES {
-        return false;
-    }
-    if shape.locks > layout::MOST_LOCKS {
-        return false;
-    }
-    if shape.conditions > layout::MOST_CONDITIONS {
-        return false;
-    }
-    shape.parks <= layout::MOST_PARKS
-}
-
-// A byte as a word.
-fn wide(byte: u8) -> u16
-    ensures { result ≡ byte }
-{
-    byte as u16
+    (1..=layout::MOST_PROCESSES).contains(&shape.processes)
+        && shape.locks <= layout::MOST_LOCKS
+        && shape.conditions <= layout::MOST_CONDITIONS
+        && shape.parks <= layout::MOST_PARKS
 }
 
 // Whether one of the priorities is above the highest.
 fn one_above(priorities: &[u8]) -> bool
     ensures { result ≡ any_above 7 priorities.now }
 {
-    let mut i: usize = 0;
-    while i < priorities.len() {
-        if wide(priorities[i]) > layout::HIGHEST {
-            return true;
-        }
-        i += 1;
-    }
-    false
+    priorities.iter().any(|&p| u16::from(p) > layout::HIGHEST)
 }
 
 // The tests of the counts and the priorities alone.
@@ -74,24 +51,13 @@ fn tested(shape: Shape, priorities: &[u8]) -> Result<(), Refusal>
 
 // ---- words
 
-// So many words of the area become 0.
-fn clear(area: &mut [u16], words: usize)
-    requires { words ≤ length area.old }
-    ensures { ((i : ℕ) → i < words → get_or area.new i 0 ≡ 0) × (drop words area.new ≡ drop words area.old) }
-{
-    let mut at: usize = 0;
-    while at < words {
-        area[at] = 0;
-        at += 1;
-    }
-}
-
 // An area of these counts, in its first three words, in which all else is 0.
 fn count_out(area: &mut [u16], shape: Shape)
     requires { (counted shape ≡ true) × (size shape ≤ length area.old) }
     ensures { Stored shape area.old area.new (laid shape (lined [] 0)) }
 {
-    clear(area, area::size_of(shape));
+    let words = area::size_of(shape);
+    area[..words].fill(0);
     area[layout::PROCESSES] = shape.processes;
     area[layout::LOCKS_CONDITIONS] = shape.locks * layout::LOCKS_UNIT + shape.conditions;
     area[layout::PARKS] = shape.parks * layout::PARKS_UNIT;

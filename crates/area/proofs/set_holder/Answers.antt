@@ -6,9 +6,6 @@ use Rattle.area.proofs.Stores.{stored_then}
 use Rattle.area.proofs.Fields.{holder_fits, takes_holder}
 use Rattle.area.proofs.set_holder.Goals as goal
 
-pub store-requires : goal.store-requires
-store-requires c = (c.args.shape, laid c.args.shape c.requires.held.0, locked c.args.l, c.requires.held.1.image, c.locked.ensures, c.bit_of.ensures.1)
-
 pub store-requires-2 : goal.store-requires-2
 store-requires-2 c =
     let n = c.args.shape in

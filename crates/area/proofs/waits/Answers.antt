@@ -1,30 +1,13 @@
 -- `area::waits` meets its contract: the waiting bit is read from the flags. Assumes nothing.
-use Prim.Native.Nat.{ℕ, ◌+◌, ◌/◌, ◌%◌, ◌<◌}
-use native.Mathlib.Omega.{arith}
+use Prim.Native.Nat.{ℕ, ◌+◌, ◌/◌, ◌%◌}
 use mathlib.Core.Path.{◌≡◌, refl, ap, ◌∙◌}
 use mathlib.Core.Bool.{Bool, true, false, not}
 use lib.Dec.{eqb}
-use lib.ListN.{length, get_or}
+use lib.ListN.{get_or}
 use Rattle.model.specs.Queue.{bit}
 use Rattle.area.specs.Layout.Part.{waiting}
-use Rattle.area.specs.Layout.Slot.{Flags}
-use Rattle.area.proofs.Stores.{within, load}
+use Rattle.area.proofs.Stores.{load}
 use Rattle.area.proofs.waits.Goals as goal
-
-pub overflow_add-at : goal.overflow_add-at
-overflow_add-at c =
-    let below : c.record_at-at.result + 1 < length c.args.area.now = omega (arith, c.record_at-at.ensures, within _ _ _ c.requires.held.1.image (Flags c.args.p) c.requires.p_value) in
-    omega (arith, below)
-
-pub offset_bounds-area-at : goal.offset_bounds-area-at
-offset_bounds-area-at c =
-    let below : c.record_at-at.result + 1 < length c.args.area.now = omega (arith, c.record_at-at.ensures, within _ _ _ c.requires.held.1.image (Flags c.args.p) c.requires.p_value) in
-    omega (arith, below)
-
-pub bounds-area-at : goal.bounds-area-at
-bounds-area-at c =
-    let below : c.record_at-at.result + 1 < length c.args.area.now = omega (arith, c.record_at-at.ensures, within _ _ _ c.requires.held.1.image (Flags c.args.p) c.requires.p_value) in
-    omega (arith, below)
 
 set_bit : (b : Bool) → not (eqb (bit b) 0) ≡ b
 set_bit true = refl

@@ -1,25 +1,5 @@
--- `moves::first_in` meets its contract: the records are lent to the rings, and the queue is one of them. Assumes nothing.
-use Rattle.area.specs.Layout.Slot.{Tail}
-use Rattle.area.proofs.Fields.{below}
-use Rattle.moves.proofs.Queues.{read_queue}
-use borrow.Author.Rules.{rules}
+-- `moves::first_in` meets its contract: the ring is the one of the queue that is there. Assumes nothing.
 use Rattle.moves.proofs.first_in.Goals as goal
 
-pub offset_bounds-area-i : goal.offset_bounds-area-i
-offset_bounds-area-i c =
-    let h = below c.requires.held.1.image (Tail c.requires.q_value.0) c.requires.q_value.1 c.requires.q_value.2 in
-    search rules
-
-pub bounds-area-i : goal.bounds-area-i
-bounds-area-i c = below c.requires.held.1.image (Tail c.requires.q_value.0) c.requires.q_value.1 c.requires.q_value.2
-
 pub first_of-requires : goal.first_of-requires
-first_of-requires c =
-    let records_at_lem = c.records_at-at in
-    (_, read_queue c.requires.held.1 c.requires.q_value.0 c.requires.q_value.1 c.requires.q_value.2 records_at_lem.ensures c.next_field-tail.ensures)
-
-pub returns : goal.returns
-returns c s q H ok here =
-    let records_at_lem = c.records_at-at in
-    let next_field = c.next_field-tail in
-    c.first_of.ensures (s.queues q) (read_queue H q ok here records_at_lem.ensures next_field.ensures)
+first_of-requires c = let q = c.requires.q_value in (_, c.ring_at-tail.ensures c.requires.held.0 q.0 c.requires.held.1 q.1 q.2)

@@ -1,14 +1,7 @@
 -- `moves::put_in` meets its contract: the records are lent to the rings, and what comes back changes one ring. Assumes nothing.
-use borrow.Author.Rules.{rules}
-use Rattle.moves.proofs.Relinks.{tail_below, tail_again, lent_join, back_arrived, back_join}
+use Rattle.moves.proofs.Relinks.{lent_join, back_arrived, back_join}
 use Rattle.ring.proofs.Rings.{ring_tail_small}
 use Rattle.moves.proofs.put_in.Goals as goal
-
-pub offset_bounds-area-i : goal.offset_bounds-area-i
-offset_bounds-area-i c = let j = c.requires.2 in let h = tail_below j.queue j.rings j.given j.here in search rules
-
-pub bounds-area-i : goal.bounds-area-i
-bounds-area-i c = let j = c.requires.2 in tail_below j.queue j.rings j.given j.here
 
 pub join-arrival-requires : goal.join-arrival-requires
 join-arrival-requires c =
@@ -20,19 +13,6 @@ with_next-requires c =
     let pre = c.requires in
     let L = lent_join pre.2 pre.1 c.next_field.ensures in
     ring_tail_small _ (c.join-arrival.ensures _ L.1 L.2 (pre.2.out pre.2.queue)).0.ring
-
-pub offset_bounds-area-i-2 : goal.offset_bounds-area-i-2
-offset_bounds-area-i-2 c =
-    let pre = c.requires in
-    let j = pre.2 in
-    let h = tail_again j.queue c.args.base c.join-arrival.new.records j.rings j.given j.here pre.1 in
-    search rules
-
-pub bounds-area-i-2 : goal.bounds-area-i-2
-bounds-area-i-2 c =
-    let pre = c.requires in
-    let j = pre.2 in
-    tail_again j.queue c.args.base c.join-arrival.new.records j.rings j.given j.here pre.1
 
 pub returns : goal.returns
 returns c n e j =

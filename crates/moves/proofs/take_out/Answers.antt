@@ -1,16 +1,9 @@
 -- `moves::take_out` meets its contract: the records are lent to the rings, and what comes back changes one ring. Assumes nothing.
 use mathlib.Core.Path.{refl, sym, ◌∙◌}
-use borrow.Author.Rules.{rules}
 use Rattle.ring.proofs.Rings.{before_none, before_some, ring_tail_small}
-use Rattle.moves.proofs.Relinks.{tail_below, tail_again, leaves_ring, left_relinks, left_stays}
+use Rattle.moves.proofs.Relinks.{leaves_ring, left_relinks, left_stays}
 use Rattle.moves.proofs.Tries.{did, did_not}
 use Rattle.moves.proofs.take_out.Goals as goal
-
-pub offset_bounds-area-i : goal.offset_bounds-area-i
-offset_bounds-area-i c = let j = c.requires.2 in let h = tail_below j.queue j.rings j.given j.here in search rules
-
-pub bounds-area-i : goal.bounds-area-i
-bounds-area-i c = let j = c.requires.2 in tail_below j.queue j.rings j.given j.here
 
 pub before-prev-requires : goal.before-prev-requires
 before-prev-requires c =
@@ -47,19 +40,6 @@ with_next-requires c =
     let R = leaves_ring j _ _ pre.1 next_field.ensures in
     let b = before_some next_field.result c.args.p (j.queues j.queue) (c.before-prev.ensures _ R) c.if-prev-eq0.false in
     ring_tail_small _ (c.leave-new.ensures _ R b.0 b.1).ring
-
-pub offset_bounds-area-i-2 : goal.offset_bounds-area-i-2
-offset_bounds-area-i-2 c =
-    let pre = c.requires in
-    let j = pre.2 in
-    let h = tail_again j.queue c.args.base c.leave-new.new.records j.rings j.given j.here pre.1 in
-    search rules
-
-pub bounds-area-i-2 : goal.bounds-area-i-2
-bounds-area-i-2 c =
-    let pre = c.requires in
-    let j = pre.2 in
-    tail_again j.queue c.args.base c.leave-new.new.records j.rings j.given j.here pre.1
 
 pub returns : goal.returns
 returns c n e j =
