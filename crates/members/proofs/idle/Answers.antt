@@ -1,7 +1,9 @@
 -- `members::idle` meets its contract: none of the flags but abort, and no timer. Assumes nothing.
-use borrow.Author.Rules.{rules}
-use Rattle.members.proofs.Steps.{idle_by}
+use Rattle.std.proofs.Common.{arith}
+use Rattle.std.proofs.lemmas.Bool.Decides.{nat_tests}
+use Rattle.members.specs.Walk.{is_idle}
 use Rattle.members.proofs.idle.Goals as goal
 
 pub returns : goal.returns
-returns c = idle_by _ _ (search rules)
+unfolding is_idle
+returns c = grind (arith, nat_tests)
