@@ -1,5 +1,5 @@
 -- Those due within k ticks: of the first q processes, with one process more, and over the front of a buffer; that they are processes, and how many they are. By induction on the list of processes, which grows at its end, and on the ticks. Assumes nothing.
-use Prim.Native.Nat.{ℕ, zero, suc, ◌+◌, ◌≤◌}
+use Prim.Native.Nat.{ℕ, zero, suc, ◌+◌, ◌-◌, ◌≤◌}
 use native.Mathlib.Omega.{arith}
 use native.Mathlib.Decide.{ℕ_discrete}
 use native.Mathlib.Numerals.{add-one}
@@ -9,6 +9,7 @@ use mathlib.Core.List.{List, [], ◌∷◌, ◌++◌, append-nil}
 use lib.Dec.{eqb}
 use lib.ListN.{length, get_or, drop, set, length-append, length-drop, length-map}
 use lib.Seq.{drop-cons, append_snoc, set_at}
+use Rattle.std.specs.Int.{from_bool}
 use Rattle.model.specs.declared.Shape.{Shape}
 use Rattle.model.specs.Queue.{inside, up_to, filter}
 use Rattle.model.specs.Machine.{State, model}
@@ -22,6 +23,11 @@ use Rattle.timers.specs.Telling.{due_ones}
 
 -- ---- those of 1 to q who pass a test
 
+-- one at most for each
+pub one_at_most : (b : Bool) → from_bool b ≤ 1
+one_at_most true = omega arith
+one_at_most false = omega arith
+
 module _ (t : ℕ → Bool) where
   -- of more there are no fewer
   filter_rises : (q m : ℕ) → q ≤ m → length (filter t (up_to q)) ≤ length (filter t (up_to m))
@@ -32,22 +38,29 @@ module _ (t : ℕ → Bool) where
       go (yes e) ih = rw e (omega arith)
       go (no d) ih = let k = ih (omega arith) in rw (filter_append t (up_to m) (suc m ∷ []), length-append) (omega arith)
 
-  module _ (q : ℕ) where
+  module _ {p : ℕ} (h : 1 ≤ p) where
     -- one more, who passes
-    filter_more : t (q + 1) ≡ true → filter t (up_to (q + 1)) ≡ filter t (up_to q) ++ ((q + 1) ∷ [])
-    filter_more e = rw (add-one q) (filter_append t (up_to q) (suc q ∷ []) ∙ rw (rw (add-one q) at e))
+    filter_more : t p ≡ true → filter t (up_to (p + 1 - 1)) ≡ filter t (up_to (p - 1)) ++ (p ∷ [])
+    filter_more e =
+        let next : p + 1 - 1 ≡ suc (p - 1) = omega arith in
+        let last : suc (p - 1) ≡ p = omega arith in
+        rw next (filter_append t (up_to (p - 1)) (suc (p - 1) ∷ []) ∙ rw (last, e))
 
     -- one more, who does not
-    filter_same : t (q + 1) ≡ false → filter t (up_to (q + 1)) ≡ filter t (up_to q)
-    filter_same e = rw (add-one q) (filter_append t (up_to q) (suc q ∷ []) ∙ rw (rw (add-one q) at e, append-nil))
+    filter_same : t p ≡ false → filter t (up_to (p + 1 - 1)) ≡ filter t (up_to (p - 1))
+    filter_same e =
+        let next : p + 1 - 1 ≡ suc (p - 1) = omega arith in
+        let last : suc (p - 1) ≡ p = omega arith in
+        rw next (filter_append t (up_to (p - 1)) (suc (p - 1) ∷ []) ∙ rw (last, e, append-nil))
 
     -- who passes is counted
-    pub count_more : {m : ℕ} → t (q + 1) ≡ true → m ≡ length (filter t (up_to q)) → m + 1 ≡ length (filter t (up_to (q + 1)))
-    count_more e h = rw (filter_more e, length-append) (omega arith)
+    count_more : {m : ℕ} → t p ≡ true → m ≡ length (filter t (up_to (p - 1))) → m + 1 ≡ length (filter t (up_to (p + 1 - 1)))
+    count_more e k = rw (filter_more e, length-append) (omega arith)
 
-    -- who does not is not
-    pub count_same : {m : ℕ} → t (q + 1) ≡ false → m ≡ length (filter t (up_to q)) → m ≡ length (filter t (up_to (q + 1)))
-    count_same e h = rw (filter_same e) h
+    -- and who does not is not
+    pub count_on : {m : ℕ} (b : Bool) → b ≡ t p → m ≡ length (filter t (up_to (p - 1))) → m + from_bool b ≡ length (filter t (up_to (p + 1 - 1)))
+    count_on true e k = count_more (sym e) k
+    count_on false e k = rw (filter_same (sym e)) (omega arith)
 
 -- ---- those due
 
@@ -62,7 +75,7 @@ module _ (k : ℕ) (n : Shape) (s : State model) (q : ℕ) where
   due_all e = rw e
 
   -- there is room for some where there is room for all
-  pub due_room : {m room : ℕ} → q ≤ n.processes → m ≡ length (filter (is_due k n s) (up_to q)) → length (due_ones k n s) ≤ room → m ≤ room
+  due_room : {m room : ℕ} → q ≤ n.processes → m ≡ length (filter (is_due k n s) (up_to q)) → length (due_ones k n s) ≤ room → m ≤ room
   unfolding due_ones
   due_room h e r = let w = filter_rises (is_due k n s) q n.processes h in omega arith
 
@@ -120,16 +133,21 @@ over_start ws = record { count = refl; words = refl }
 pub over_long : {xs old new : List ℕ} {at : ℕ} → Over xs old new at → at ≤ length old → length new ≡ length old
 over_long {xs} {old} {at = at} o h = ap length o.words ∙ simp (length-append, length-drop) (let k = o.count in omega arith)
 
--- one process more, who passes the test
-pub over_next : (t : ℕ → Bool) (q : ℕ) {old new : List ℕ} {at : ℕ} → t (q + 1) ≡ true → at + 1 ≤ length old → Over (filter t (up_to q)) old new at → Over (filter t (up_to (q + 1))) old (set new at (q + 1)) (at + 1)
-over_next t q {old} {new} {at} e h o = record { count = count_more t q e o.count; words = rw (filter_more t q e) (go (filter t (up_to q)) o.count o.words) }
-  where
-    go : (xs : List ℕ) → at ≡ length xs → new ≡ xs ++ drop at old → set new at (q + 1) ≡ xs ++ ((q + 1) ∷ []) ++ drop (at + 1) old
-    go xs k w = rw (w, drop-cons old at 0 (omega arith), add-one at, append_snoc) (set_at xs (get_or old at 0) (drop (suc at) old) (q + 1) at (sym k))
+module _ (t : ℕ → Bool) {p : ℕ} (h : 1 ≤ p) {old new : List ℕ} {at : ℕ} (o : Over (filter t (up_to (p - 1))) old new at) where
+  -- one process more, who passes the test
+  pub over_next : t p ≡ true → at + 1 ≤ length old → Over (filter t (up_to (p + 1 - 1))) old (set new at p) (at + 1)
+  over_next e room = record { count = count_more t h e o.count; words = rw (filter_more t h e) (go (filter t (up_to (p - 1))) o.count o.words) }
+    where
+      go : (xs : List ℕ) → at ≡ length xs → new ≡ xs ++ drop at old → set new at p ≡ xs ++ (p ∷ []) ++ drop (at + 1) old
+      go xs k w = rw (w, drop-cons old at 0 (omega arith), add-one at, append_snoc) (set_at xs (get_or old at 0) (drop (suc at) old) p at (sym k))
 
--- one more, who does not
-pub over_same : (t : ℕ → Bool) (q : ℕ) {old new : List ℕ} {at : ℕ} → t (q + 1) ≡ false → Over (filter t (up_to q)) old new at → Over (filter t (up_to (q + 1))) old new at
-over_same t q e o = rw (filter_same t q e) o
+  -- one more, who does not
+  pub over_same : t p ≡ false → Over (filter t (up_to (p + 1 - 1))) old new at
+  over_same e = rw (filter_same t h e) o
+
+-- there is room for one who is due, where there is for all
+pub over_room : (k : ℕ) (n : Shape) (s : State model) {p : ℕ} {old new : List ℕ} {at : ℕ} → 1 ≤ p → p ≤ n.processes → Over (filter (is_due k n s) (up_to (p - 1))) old new at → is_due k n s p ≡ true → length (due_ones k n s) ≤ length old → at + 1 ≤ length old
+over_room k n s {p} h l o e room = due_room k n s (p + 1 - 1) (omega arith) (count_more (is_due k n s) h e o.count) room
 
 -- where they end
 pub over_all : {xs ys old new : List ℕ} {at : ℕ} → Over xs old new at → xs ≡ ys → new ≡ ys ++ drop (length ys) old

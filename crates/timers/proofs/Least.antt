@@ -1,73 +1,91 @@
 -- The nearest, found by a walk over the processes: of those passed the first with the fewest ticks left. Whoever is the first of all with the fewest
 -- stands first among those due within a full round: nobody is due before, and of those with as many ticks left nobody stands before. Assumes nothing.
-use Prim.Native.Nat.{ℕ, zero, suc, ◌+◌, ◌≤◌, ◌<◌}
+use Prim.Native.Nat.{ℕ, zero, suc, ◌+◌, ◌-◌, ◌≤◌, ◌<◌}
 use native.Mathlib.Omega.{arith}
 use native.Mathlib.Decide.{ℕ_discrete}
-use mathlib.Core.Path.{◌≡◌, refl, sym, ◌∙◌, subst}
+use mathlib.Core.Path.{◌≡◌, refl, sym, ◌∙◌}
 use mathlib.Core.Logic.{◌≢◌}
-use mathlib.Core.Bool.{Bool, true, false, ◌||◌}
+use mathlib.Core.Bool.{Bool, true, false, true≢false}
+use Rattle.std.specs.Prelude.{Option, Some, None}
 use mathlib.Core.List.{List, [], ◌∷◌, ◌++◌, map}
-use lib.Dec.{eqb, ltb}
+use lib.Dec.{eqb}
+use Rattle.std.specs.Option.{unwrap_or}
 use Rattle.model.specs.declared.Shape.{Shape}
 use Rattle.model.specs.Queue.{up_to, filter}
-use Rattle.model.specs.Field.{some}
 use Rattle.model.specs.Machine.{State, model}
-use Rattle.model.specs.Timers.{Entry, left, with_left, due_within}
-use Rattle.model.proofs.Tests.{so, not_so, eqb_case, eqb_yes, eqb_no, leb_case, and_split, or_split, not_true, not_below, inside_bounds}
+use Rattle.model.specs.Timers.{Entry, left, with_left, due_within, nearest}
+use Rattle.model.proofs.Tests.{so, not_so, eqb_yes, eqb_no, leb_case, inside_bounds}
 use Rattle.model.proofs.Lists.{filter_append, up_to_member}
 use Rattle.model.proofs.Many.{filter_none}
 use Rattle.model.proofs.Ticking.{left_most}
-use Rattle.timers.specs.Telling.{fewer, nearest_in}
+use Rattle.timers.specs.Telling.{fewer}
 
 -- ---- the walk
 
--- of 1 to q, whose ticks left f tells: nobody has any; or p has d, nobody has fewer, and nobody before p has as many
-pub data Least (f : ℕ → ℕ) (q p d : ℕ) : Type 0 where
-  nobody : p ≡ 0 → d ≡ 0 → ((x : ℕ) → 1 ≤ x → x ≤ q → f x ≡ 0) → Least f q p d
-  somebody : 1 ≤ p → p ≤ q → f p ≡ d → d ≢ 0 → ((x : ℕ) → 1 ≤ x → x ≤ q → f x ≢ 0 → d ≤ f x) → ((x : ℕ) → 1 ≤ x → x < p → f x ≢ d) → Least f q p d
+-- of 1 to q, whose ticks left f tells, p has d: nobody has fewer, and nobody before p has as many
+pub record First (f : ℕ → ℕ) (q p d : ℕ) : Type 0 where
+  pub above : 1 ≤ p
+  pub within : p ≤ q
+  pub has : f p ≡ d
+  pub some : d ≢ 0
+  pub least : (x : ℕ) → 1 ≤ x → x ≤ q → f x ≢ 0 → d ≤ f x
+  pub before : (x : ℕ) → 1 ≤ x → x < p → f x ≢ d
 
--- what the test says where it holds
-fewer_yes : (d least : ℕ) → fewer d least ≡ true → (d ≢ 0) × (least ≢ 0 → d < least)
-fewer_yes d least e =
-    let s = and_split (some d) (eqb least 0 || ltb d least) e in
-    (not_so (eqb_case d 0) (not_true (eqb d 0) s.0), λ h. so (leb_case (suc d) least) (rw (eqb_no least 0 h) at s).1)
-
--- and where it fails
-fewer_no : (d least : ℕ) → fewer d least ≡ false → d ≢ 0 → (least ≢ 0) × (least ≤ d)
-fewer_no d least e h =
-    let s = or_split (eqb least 0) (ltb d least) (rw (eqb_no d 0 h) at e) in
-    (not_so (eqb_case least 0) s.0, not_below d least s.1)
+-- such a one is the nearest of 1 to q, or nobody has any
+abbrev pub Least : (ℕ → ℕ) → ℕ → Option Entry → Type 0
+Least f q None = (x : ℕ) → 1 ≤ x → x ≤ q → f x ≡ 0
+Least f q (Some e) = First f q e.0 e.1
 
 module _ (f : ℕ → ℕ) where
   -- nobody is passed
-  pub least_start : Least f 0 0 0
-  least_start = nobody refl refl (λ x a b. let z : ⊥ = omega arith in absurd z)
+  pub least_start : Least f 0 None
+  least_start x a b = absurd (omega arith)
 
-  -- the next has fewer
-  pub least_taken : {q p d l : ℕ} → Least f q p d → l ≡ f (q + 1) → fewer l d ≡ true → Least f (q + 1) (q + 1) l
-  least_taken {q} {p} {d} {l} L e t =
-      let h = fewer_yes l d t in
-      somebody (omega arith) (omega arith) (sym e) h.0
-      (λ x a b o. elim (ℕ_discrete x (q + 1)) [ yes i ↦ rw (i, e) (omega arith) | no i ↦ let k = more h L x a (omega arith) o in omega arith ])
-      (λ x a b z. let k = more h L x a (omega arith) (λ y. h.0 (sym z ∙ y)) in omega arith)
-    where
-      -- all before have more
-      more : (l ≢ 0) × (d ≢ 0 → l < d) → Least f q p d → (x : ℕ) → 1 ≤ x → x ≤ q → f x ≢ 0 → l < f x
-      more h (nobody i j none) x a b o = absurd (o (none x a b))
-      more h (somebody i j k y all first) x a b o = let w = all x a b o in let v = h.1 y in omega arith
+  -- p comes next
+  module _ (p : ℕ) (h : 1 ≤ p) where
+    -- who has none
+    pub least_none : (o : Option Entry) → Least f (p - 1) o → f p ≡ 0 → Least f (p + 1 - 1) o
+    least_none None L e = λ x a b. elim (ℕ_discrete x p) [ yes k ↦ rw k e | no k ↦ L x a (omega arith) ]
+    least_none (Some m) L e = record {
+      above = L.above;
+      within = omega (arith, L.within);
+      has = L.has;
+      some = L.some;
+      least = λ x a b n. elim (ℕ_discrete x p) [ yes k ↦ absurd (n (rw k e)) | no k ↦ L.least x a (omega arith) n ];
+      before = L.before;
+    }
 
-  -- the next has not
-  pub least_left : {q p d l : ℕ} → Least f q p d → l ≡ f (q + 1) → fewer l d ≡ false → Least f (q + 1) p d
-  least_left {q} {p} {d} {l} (nobody i j none) e t = nobody i j (λ x a b. elim (ℕ_discrete x (q + 1)) [ yes k ↦ rw k (sym e ∙ own (ℕ_discrete l 0)) | no k ↦ none x a (omega arith) ])
-    where
-      own : Dec (l ≡ 0) → l ≡ 0
-      own (yes z) = z
-      own (no z) = absurd ((fewer_no l d t z).0 j)
-  least_left {q} {p} {d} {l} (somebody i j k y all first) e t =
-      somebody i (omega arith) k y (λ x a b o. elim (ℕ_discrete x (q + 1)) [ yes w ↦ last x w o | no w ↦ all x a (omega arith) o ]) first
-    where
-      last : (x : ℕ) → x ≡ q + 1 → f x ≢ 0 → d ≤ f x
-      last x w o = let z : f x ≡ l = rw w (sym e) in let v = fewer_no l d t (λ m. o (z ∙ m)) in omega arith
+    module _ {d : ℕ} (has : f p ≡ d) (some : d ≢ 0) where
+      -- all before have more than who has fewer than the nearest so far
+      more : (o : Option Entry) → Least f (p - 1) o → fewer d o ≡ true → (x : ℕ) → 1 ≤ x → x < p → f x ≢ 0 → d < f x
+      more None L t x a b n = absurd (n (L x a (omega arith)))
+      more (Some m) L t x a b n =
+          let less = so (leb_case (suc d) m.1) t in
+          let least = L.least x a (omega arith) n in
+          omega arith
+
+      -- who has fewer
+      pub least_taken : (o : Option Entry) → Least f (p - 1) o → fewer d o ≡ true → Least f (p + 1 - 1) (Some (p, d))
+      least_taken o L t = record {
+        above = h;
+        within = omega arith;
+        has = has;
+        some = some;
+        least = λ x a b n. elim (ℕ_discrete x p) [ yes k ↦ rw (k, has) (omega arith) | no k ↦ let m = more o L t x a (omega arith) n in omega arith ];
+        before = λ x a b e. let m = more o L t x a b (λ z. some (sym e ∙ z)) in omega arith;
+      }
+
+      -- who has not
+      pub least_left : (o : Option Entry) → Least f (p - 1) o → fewer d o ≡ false → Least f (p + 1 - 1) o
+      least_left None L t = absurd (true≢false t)
+      least_left (Some m) L t = record {
+        above = L.above;
+        within = omega (arith, L.within);
+        has = L.has;
+        some = L.some;
+        least = λ x a b n. elim (ℕ_discrete x p) [ yes k ↦ (let l = not_so (leb_case (suc d) m.1) t in rw (k, has) (omega arith)) | no k ↦ L.least x a (omega arith) n ];
+        before = L.before;
+      }
 
 -- ---- the end of it
 
@@ -110,9 +128,8 @@ module _ (n : Shape) (s : State model) where
       go (no i) ih = let r = ih (omega arith) in (r.0 ++ with_left n s (suc k), rw r.1)
 
   -- so the walk ends at the nearest
-  pub nearest_is : {q p d : ℕ} → q ≡ n.processes → Least (left n s) q p d → record { code = 0; process = p; left = d } ≡ nearest_in n s
-  nearest_is {q} {p} {d} w L = go (subst (λ (k : ℕ). Least (left n s) k p d) w L)
-    where
-      go : Least (left n s) n.processes p d → record { code = 0; process = p; left = d } ≡ nearest_in n s
-      go (nobody i j none) = rw (i, j, none_within 65536 (λ x a b o. absurd (o (none x a b))))
-      go (somebody a b e o all before) = rw (first_within p d a b e o all before 65536 (rw (← e) (left_most n s p))).1
+  pub nearest_is : {q : ℕ} → q ≡ n.processes → (o : Option Entry) → Least (left n s) q o → unwrap_or o (0, 0) ≡ nearest n s
+  nearest_is e None L = rw (none_within 65536 (λ x a b o. absurd (o (L x a (omega arith)))))
+  nearest_is e (Some m) L =
+      let F = rw e at L in
+      rw (first_within m.0 m.1 F.above F.within F.has F.some F.least F.before 65536 (rw (← F.has) (left_most n s m.0))).1

@@ -1,22 +1,38 @@
 -- A process's ticks left, by the words read of it: none where it is not armed, since whoever is armed waits; else the ticks to its timer, a full round where it is at the clock.
 -- Assumes nothing.
-use Prim.Native.Nat.{ℕ, suc, ◌≤◌, ◌<◌}
+use Prim.Native.Nat.{ℕ, ◌≤◌, ◌<◌}
 use native.Mathlib.Omega.{arith}
 use mathlib.Core.Path.{◌≡◌, refl, sym, ◌∙◌}
 use mathlib.Core.Logic.{◌≢◌}
-use mathlib.Core.Bool.{Bool, true, false, not, ◌&&◌, cond, and-false}
-use lib.Dec.{eqb, leb, ltb}
+use Rattle.std.specs.Prelude.{Some, None}
+use Rattle.std.proofs.lemmas.Option.{same_Some}
+use mathlib.Core.Bool.{Bool, true, false, ◌&&◌, cond, and-false}
+use mathlib.Core.List.{List}
+use lib.Dec.{eqb}
 use Rattle.model.specs.declared.Shape.{Shape}
 use Rattle.model.specs.Queue.{inside}
-use Rattle.model.specs.Field.{some}
+use Rattle.model.specs.Field.{Field, some}
 use Rattle.model.specs.Field.Field.{clock, armed, timer}
 use Rattle.model.specs.Machine.{State, model, waiting}
 use Rattle.model.specs.Valid.{Valid}
 use Rattle.model.specs.Timers.{distance, ticks_to, left}
-use Rattle.model.proofs.Tests.{holds, fails, eqb_yes, eqb_no, LeCase, leb_case, leb_yes, leb_no, inside_bounds}
+use Rattle.model.proofs.Tests.{holds, fails, EqCase, eqb_case, eqb_yes, eqb_no, inside_bounds}
 use Rattle.model.proofs.Ticking.{left_armed}
+use Rattle.area.specs.declared.places.Place.{Place}
+use Rattle.area.specs.Layout.{Lies}
+use Rattle.area.specs.Layout.Part.{kept}
+use Rattle.area.specs.Holds.{Holds}
 use Rattle.order.specs.Order.{ahead}
-use Rattle.timers.specs.Telling.{fewer}
+use Rattle.timers.specs.Telling.{Shows, nonzero}
+
+-- ---- what a reading shows
+
+-- where the clock is read in the area
+pub shown : (n : Shape) (ws : List ℕ) {here : Place} {now : ℕ} → ((m : Shape) (s : State model) (f : Field) → Holds m ws s → Lies m (kept f) here → now ≡ s.fields f) → ((m : Shape) → Lies m (kept clock) here)
+    → (s : State model) → Holds n ws s → Valid n s → Shows (record { words = ws; shape = n; clock = now }) s
+shown n ws reads lies s H v = record { holds = H; valid = v; now = reads n s clock H (lies n) }
+
+-- ---- one process's ticks left
 
 module _ (n : Shape) (s : State model) (p : ℕ) {a : ℕ} (reads : a ≡ s.fields (armed p)) where
   -- it is not armed
@@ -49,30 +65,21 @@ key_left n s {now} {k} c h p i = rw c (go (waiting n s.queues p && some (s.field
         round false l = refl
     go false d b = let y : ⊥ = omega arith in absurd y
 
--- ---- those due within k ticks
+-- ---- ticks where there are some
 
--- nobody is who has none left
-pub due_none : (k : ℕ) {d l : ℕ} → d ≡ l → d ≡ 0 → false ≡ inside k l
-due_none k {d} {l} e z = rw (eqb_yes l 0 (sym e ∙ z))
+pub nonzero_some : {d l : ℕ} → d ≡ l → d ≢ 0 → Some d ≡ nonzero l
+nonzero_some {d} {l} e h = rw (← e, eqb_no d 0 h)
 
--- the others by their ticks left
-pub due_some : (k : ℕ) {d l : ℕ} → d ≡ l → d ≢ 0 → leb d k ≡ inside k l
-due_some k {d} {l} e h = rw (e, eqb_no l 0 (λ z. h (e ∙ z))) (go (leb_case l k))
+pub some_nonzero : {d l : ℕ} → nonzero l ≡ Some d → (l ≡ d) × (d ≢ 0)
+some_nonzero {d} {l} e = go (eqb_case l 0) e
   where
-    go : LeCase l k → leb l k ≡ not (leb (suc k) l)
-    go (holds d e) = rw (e, leb_no (suc k) l (omega arith))
-    go (fails d e) = rw (e, leb_yes (suc k) l (omega arith))
+    go : EqCase l 0 → cond (eqb l 0) None (Some l) ≡ Some d → (l ≡ d) × (d ≢ 0)
+    go (holds i b) k = let none : None ≡ Some d = rw b at k in cc
+    go (fails i b) k = let same : l ≡ d = same_Some l d (rw b at k) in (same, λ z. i (same ∙ z))
 
--- ---- fewer than the least so far
-
--- no ticks left are never fewer
-pub fewer_none : {d : ℕ} (least : ℕ) → d ≡ 0 → false ≡ fewer d least
-fewer_none {d} least e = rw (eqb_yes d 0 e)
-
--- the first that are some
-pub fewer_first : {d least : ℕ} → d ≢ 0 → least ≡ 0 → true ≡ fewer d least
-fewer_first {d} {least} h e = rw (eqb_no d 0 h, eqb_yes least 0 e)
-
--- and the others by their number
-pub fewer_some : {d least : ℕ} → d ≢ 0 → least ≢ 0 → ltb d least ≡ fewer d least
-fewer_some {d} {least} h o = rw (eqb_no d 0 h, eqb_no least 0 o)
+pub none_nonzero : {l : ℕ} → nonzero l ≡ None → l ≡ 0
+none_nonzero {l} e = go (eqb_case l 0) e
+  where
+    go : EqCase l 0 → cond (eqb l 0) None (Some l) ≡ None → l ≡ 0
+    go (holds i b) k = i
+    go (fails i b) k = let some : Some l ≡ None = rw b at k in cc

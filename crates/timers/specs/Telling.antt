@@ -1,13 +1,26 @@
 -- What the two reads of timers promise on an area that holds a valid state: who is due, in a lent buffer, and who is the nearest. Assumes nothing.
-use Rattle.std.specs.Prelude.{ℕ, Bool, ◌&&◌, ◌||◌, List, [], ◌∷◌, eqb, ltb, length}
+use Rattle.std.specs.Prelude.{ℕ, ◌≡◌, cond, eqb, Bool, true, Option, Some, None, List, [], ◌∷◌, ltb, length}
 use Rattle.model.specs.declared.Shape.{Shape}
 use Rattle.model.specs.declared.Report.{Report}
 use Rattle.model.specs.Queue.{inside, up_to, filter}
-use Rattle.model.specs.Field.{some}
+use Rattle.model.specs.Field.Field.{clock}
 use Rattle.model.specs.Machine.{State, model}
+use Rattle.model.specs.Valid.{Valid}
 use Rattle.model.specs.Timers.{Entry, left, due_within, nearest}
 use Rattle.model.specs.Reports.{Reports}
+use Rattle.area.specs.Holds.{Holds}
+use Rattle.order.specs.Order.{Timers}
 use Rattle.timers.specs.declared.Earliest.{Earliest}
+
+-- the words are an area that holds this valid state, and the clock is the one that it has
+pub record Shows (t : Timers) (s : State model) : Type 0 where
+  pub holds : Holds t.shape t.words s
+  pub valid : Valid t.shape s
+  pub now : t.clock ≡ s.fields clock
+
+-- a number, where it is not 0
+abbrev pub nonzero : ℕ → Option ℕ
+nonzero d = cond (eqb d 0) None (Some d)
 
 -- two words each, process and ticks left
 abbrev pub in_words : List Entry → List ℕ
@@ -18,9 +31,10 @@ in_words (e ∷ es) = e.0 ∷ e.1 ∷ in_words es
 unfoldable pub due_ones : ℕ → Shape → State model → List ℕ
 due_ones k n s = filter (λ p. inside k (left n s p)) (up_to n.processes)
 
--- whether so many ticks left are fewer than the least so far; 0 is none
-abbrev pub fewer : ℕ → ℕ → Bool
-fewer d least = some d && (eqb least 0 || ltb d least)
+-- whether so many ticks left are fewer than those of the nearest so far, if there is one
+abbrev pub fewer : ℕ → Option Entry → Bool
+fewer d None = true
+fewer d (Some e) = ltb d e.1
 
 -- who is due within k ticks, of a state, into a buffer: fewer than two words for each process told is 5; the count is of processes
 abbrev pub Tells : ℕ → Shape → State model → List ℕ → List ℕ → Report → Type 0

@@ -2,17 +2,18 @@
 #![tactic(auto)]
 
 ghost use Rattle.std.specs.Prelude.{◌≡◌, true, ◌++◌, ◌≤◌, length, drop};
+ghost use Rattle.std.specs.Option.{unwrap_or};
 ghost use Rattle.model.specs.Queue.{inside};
-ghost use Rattle.model.specs.Field.Field.{clock as clockField};
 ghost use Rattle.model.specs.Machine.{State, model};
 ghost use Rattle.model.specs.Valid.{Valid};
-ghost use Rattle.model.specs.Timers.{left};
+ghost use Rattle.model.specs.Timers.{left, nearest};
 ghost use Rattle.area.specs.Holds.{Holds};
 ghost use Rattle.area.specs.Calls.{Stands};
-ghost use Rattle.timers.specs.Telling.{due_ones, fewer, Tells, nearest_in};
+ghost use Rattle.timers.specs.Telling.{Shows, nonzero, due_ones, fewer, Tells, nearest_in};
 
 use area::places;
 use model::{Report, Shape, Ticks};
+use std::marker::Model;
 
 // What is answered to who is the nearest: the code, the process, its ticks left. No process where nobody is armed.
 #[derive(Clone, Copy)]
@@ -25,68 +26,101 @@ pub struct Earliest {
 // A full round of the clock.
 const ROUND: u32 = 65536;
 
-// p's ticks left, 0 where it is not armed.
-fn left_of(area: &[u16], shape: Shape, clock: u16, p: u16) -> u32
-    requires stands { Stands shape area.now }
-    requires p_value { inside shape.processes p ≡ true }
-    ensures { (s : State model) → Holds shape area.now s → Valid shape s → clock ≡ s.fields clockField → result ≡ left shape s p }
-{
-    if area::get(area, places::armed(shape, p)) == 0 {
-        return 0;
-    }
-    let left = order::ticks_ahead(area, shape, clock, p);
-    if left == 0 {
-        return ROUND;
-    }
-    left as u32
+// An area that holds a valid state, and the clock that it has.
+#[derive(Drop)]
+struct Reading<'a> {
+    area: &'a [u16],
+    shape: Shape,
+    clock: u16,
 }
 
-// ---- who is due
+impl<'a> Model for Reading<'a> {
+    ghost use Rattle.model.specs.Machine.{State, model};
+    ghost use Rattle.order.specs.Order.{Timers};
+    ghost use Rattle.timers.specs.Telling.{Shows};
 
-// Whether p is due within so many ticks.
-fn is_due(area: &[u16], shape: Shape, clock: u16, ticks: u16, p: u16) -> bool
-    requires stands { Stands shape area.now }
-    requires p_value { inside shape.processes p ≡ true }
-    ensures { (s : State model) → Holds shape area.now s → Valid shape s → clock ≡ s.fields clockField → result ≡ inside ticks (left shape s p) }
-{
-    let left = left_of(area, shape, clock, p);
-    if left == 0 {
-        return false;
-    }
-    left <= ticks as u32
+    ghost Value = { Timers };
+
+    ghost view = { λ r. record { words = r.area.now; shape = r.shape; clock = r.clock } };
+
+    ghost invariant = { λ r. (s : State model) × Shows (record { words = r.area.now; shape = r.shape; clock = r.clock }) s };
 }
 
-// How many are.
-fn count_due(area: &[u16], shape: Shape, clock: u16, ticks: u16) -> u16
-    requires { Stands shape area.now }
-    ensures { (s : State model) → Holds shape area.now s → Valid shape s → clock ≡ s.fields clockField → result ≡ length (due_ones ticks shape s) }
-{
-    let processes = shape.processes;
-    let mut count: u16 = 0;
-    let mut p: u16 = 0;
-    while p < processes {
-        p += 1;
-        if is_due(area, shape, clock, ticks, p) {
-            count += 1;
+impl<'a> Reading<'a> {
+    // p's ticks left, where it is armed.
+    fn left_of(&self, p: u16) -> Option<u32>
+        requires { inside self.now.shape.processes p ≡ true }
+        ensures { (s : State model) → Shows self.now s → result ≡ nonzero (left self.now.shape s p) }
+    {
+        if area::get(self.area, places::armed(self.shape, p)) == 0 {
+            return None;
+        }
+        match order::ticks_ahead(self.area, self.shape, self.clock, p) {
+            0 => Some(ROUND),
+            left => Some(u32::from(left)),
         }
     }
-    count
+
+    // ---- who is due
+
+    // Whether p is due within so many ticks.
+    fn is_due(&self, ticks: u16, p: u16) -> bool
+        requires { inside self.now.shape.processes p ≡ true }
+        ensures { (s : State model) → Shows self.now s → result ≡ inside ticks (left self.now.shape s p) }
+    {
+        self.left_of(p).is_some_and(|left| left <= u32::from(ticks))
+    }
+
+    // How many are.
+    fn count_due(&self, ticks: u16) -> usize
+        ensures { (s : State model) → Shows self.now s → result ≡ length (due_ones ticks self.now.shape s) }
+    {
+        let mut count: usize = 0;
+        for p in 1..=self.shape.processes {
+            count += usize::from(self.is_due(ticks, p));
+        }
+        count
+    }
+
+    // They are written to the front of the buffer, in process order.
+    fn write_due(&self, ticks: u16, buffer: &mut [u16])
+        requires { (s : State model) × Shows self.now s × (length (due_ones ticks self.now.shape s) ≤ length buffer.old) }
+        ensures { (s : State model) → Shows self.now s → let ones = due_ones ticks self.now.shape s in buffer.new ≡ ones ++ drop (length ones) buffer.old }
+    {
+        let mut at: usize = 0;
+        for p in 1..=self.shape.processes {
+            if self.is_due(ticks, p) {
+                buffer[at] = p;
+                at += 1;
+            }
+        }
+    }
+
+    // ---- who is the nearest
+
+    // The first by number of those with the fewest ticks left, with those ticks.
+    fn nearest(&self) -> Option<(u16, u32)>
+        ensures { (s : State model) → Shows self.now s → unwrap_or result (0, 0) ≡ nearest self.now.shape s }
+    {
+        let mut nearest: Option<(u16, u32)> = None;
+        for p in 1..=self.shape.processes {
+            if let Some(left) = self.left_of(p) {
+                if nearer(left, nearest) {
+                    nearest = Some((p, left));
+                }
+            }
+        }
+        nearest
+    }
 }
 
-// They are written to the front of the buffer, in process order.
-fn write_due(area: &[u16], shape: Shape, clock: u16, ticks: u16, buffer: &mut [u16])
-    requires { (s : State model) × Holds shape area.now s × Valid shape s × (clock ≡ s.fields clockField) × (length (due_ones ticks shape s) ≤ length buffer.old) }
-    ensures { (s : State model) → Holds shape area.now s → Valid shape s → clock ≡ s.fields clockField → buffer.new ≡ due_ones ticks shape s ++ drop (length (due_ones ticks shape s)) buffer.old }
+// Whether so many ticks left are fewer than those of the nearest so far, if there is one.
+fn nearer(left: u32, nearest: Option<(u16, u32)>) -> bool
+    ensures { result ≡ fewer left nearest }
 {
-    let processes = shape.processes;
-    let mut at: usize = 0;
-    let mut p: u16 = 0;
-    while p < processes {
-        p += 1;
-        if is_due(area, shape, clock, ticks, p) {
-            buffer[at] = p;
-            at += 1;
-        }
+    match nearest {
+        Some((_, least)) => left < least,
+        None => true,
     }
 }
 
@@ -97,34 +131,20 @@ pub fn due(area: &[u16], shape: Shape, ticks: Ticks, buffer: &mut [u16]) -> Repo
 {
     let within = ticks.0;
     let clock = area::get(area, places::clock());
-    let count = count_due(area, shape, clock, within);
+    let reading = Reading { area, shape, clock };
+    let count = reading.count_due(within);
     if count == 0 {
         return Report { code: 0, count: 0 };
     }
-    if buffer.len() < 2 * count as usize {
+    if buffer.len() < 2 * count {
         return Report { code: 5, count: 0 };
     }
-    write_due(area, shape, clock, within, buffer);
-    order::arrange(area, shape, clock, buffer, count as usize);
+    reading.write_due(within, buffer);
+    order::arrange(area, shape, clock, buffer, count);
     Report {
         code: 0,
-        count: count,
+        count: count as u16,
     }
-}
-
-// ---- who is the nearest
-
-// Whether so many ticks left are fewer than the least so far; 0 is none.
-fn nearer(left: u32, least: u32) -> bool
-    ensures { result ≡ fewer left least }
-{
-    if left == 0 {
-        return false;
-    }
-    if least == 0 {
-        return true;
-    }
-    left < least
 }
 
 // The process with the fewest ticks left, and of several the first by number.
@@ -133,21 +153,11 @@ pub fn nearest(area: &[u16], shape: Shape) -> Earliest
     ensures { (s : State model) → Holds shape area.now s → Valid shape s → result ≡ nearest_in shape s }
 {
     let clock = area::get(area, places::clock());
-    let processes = shape.processes;
-    let mut process: u32 = 0;
-    let mut least: u32 = 0;
-    let mut p: u16 = 0;
-    while p < processes {
-        p += 1;
-        let left = left_of(area, shape, clock, p);
-        if nearer(left, least) {
-            process = p as u32;
-            least = left;
-        }
-    }
+    let reading = Reading { area, shape, clock };
+    let (process, left) = reading.nearest().unwrap_or((0, 0));
     Earliest {
         code: 0,
-        process: process,
-        left: least,
+        process: u32::from(process),
+        left,
     }
 }
