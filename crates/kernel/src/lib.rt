@@ -148,21 +148,21 @@ pub extern "C" fn kernel_reenter(area: &mut [u16], lock: u16, condition: u16) ->
 pub extern "C" fn kernel_list(area: &[u16], kind: u16, number: u16, buffer: &mut [u16]) -> u64
     ensures { Writes kind number area.now buffer.old buffer.new result }
 {
-    wire::pack_list(reads::list(area, kind, number, buffer))
+    wire::pack_report::<10>(reads::list(area, kind, number, buffer))
 }
 
 #[unsafe(no_mangle)]
 pub extern "C" fn kernel_due(area: &[u16], ticks: u16, buffer: &mut [u16]) -> u64
     ensures { Dues ticks area.now buffer.old buffer.new result }
 {
-    wire::pack_report(reads::due(area, Ticks(ticks), buffer))
+    wire::pack_report::<20>(reads::due(area, Ticks(ticks), buffer))
 }
 
 #[unsafe(no_mangle)]
 pub extern "C" fn kernel_sheet(area: &[u16], page: &mut [u8]) -> u64
     ensures { Pages area.now page.old page.new result }
 {
-    wire::pack_report(reads::sheet(area, page))
+    wire::pack_report::<20>(reads::sheet(area, page))
 }
 
 #[unsafe(no_mangle)]

@@ -1,7 +1,8 @@
 -- The law of packing, over every width and every list of fields: fields of w bits come back, and with them the answer whose fields they are.
 -- Assumes nothing.
-use Prim.Native.Nat.{ℕ, ◌+◌, ◌*◌, ◌/◌, ◌%◌, ◌^◌, ◌<◌}
-use native.Mathlib.Nat.{zero-add, mod-eq_of_lt, div-eq_of_lt, div-div-eq-div-mul, add-mul-mod_self_left, add-mul-div_left}
+use Prim.Native.Nat.{ℕ, ◌+◌, ◌*◌, ◌/◌, ◌%◌, ◌^◌, ◌<◌, ◌≤◌}
+use native.Mathlib.Omega.{arith}
+use native.Mathlib.Nat.{zero-add, one-mul, mul-le-mul, mod-lt, pow-le-pow_right, mod-eq_of_lt, div-eq_of_lt, div-div-eq-div-mul, add-mul-mod_self_left, add-mul-div_left}
 use mathlib.Core.Path.{◌≡◌, refl, sym, ap, ◌∙◌}
 use mathlib.Core.List.{List, [], ◌∷◌}
 use lib.ListN.{length, get_or}
@@ -12,6 +13,24 @@ use Rattle.model.specs.Queue.{All}
 use Rattle.model.specs.Machine.{fields_of}
 use Rattle.timers.specs.declared.Earliest.{Earliest}
 use Rattle.wire.specs.Wire.{packed, unpacked, Carries, report_fields, nearest_fields, answer_of, report_of, nearest_of}
+
+-- ---- at most twenty bits
+
+room_most : (w : ℕ) → w ≤ 20 → 2 ^ w ≤ 2 ^ 20
+room_most w h = pow-le-pow_right (omega arith) h
+
+-- how many numbers they hold is shifted in 64
+pub room_of : (w : ℕ) → w ≤ 20 → 1 * 2 ^ w % 2 ^ 64 ≡ 2 ^ w
+room_of w h = rw one-mul (mod-eq_of_lt (omega (arith, room_most w h)))
+
+-- and below what stands above the last field, and above the one before it, there is room
+pub room_last : (w : ℕ) → w ≤ 20 → (0 < 2 ^ w) × (2 ^ w ≤ 2 ^ 20) × (2 ^ w * 0 < 2 ^ 60)
+room_last w h = (pow_pos w, room_most w h, omega arith)
+
+pub room_before : (w x : ℕ) → w ≤ 20 → (0 < 2 ^ w) × (2 ^ w ≤ 2 ^ 20) × (2 ^ w * (x % 2 ^ w + 2 ^ w * 0) < 2 ^ 60)
+room_before w x h =
+    let e = room_most w h in
+    (pow_pos w, e, omega (arith, mul-le-mul e (mod-lt x (pow_pos w)), mul-le-mul e e))
 
 -- each field has w bits
 abbrev pub Fit : ℕ → List ℕ → Type 0

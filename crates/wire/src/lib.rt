@@ -17,7 +17,7 @@ fn above(room: u64, low: u32, high: u64) -> u64
     requires { (0 < room) × (room ≤ 2 ^ 20) × (room * high < 2 ^ 60) }
     ensures { result ≡ low % room + room * high }
 {
-    low as u64 % room + room * high
+    u64::from(low) % room + room * high
 }
 
 // Ten bits a field, code lowest.
@@ -26,37 +26,33 @@ pub fn pack(a: Answer) -> u64
 {
     above(
         TEN,
-        a.code as u32,
+        u32::from(a.code),
         above(
             TEN,
-            a.running as u32,
+            u32::from(a.running),
             above(
                 TEN,
-                a.retry as u32,
+                u32::from(a.retry),
                 above(
                     TEN,
-                    a.mark as u32,
-                    above(TEN, a.moved as u32, above(TEN, a.ahead as u32, 0)),
+                    u32::from(a.mark),
+                    above(TEN, u32::from(a.moved), above(TEN, u32::from(a.ahead), 0)),
                 ),
             ),
         ),
     )
 }
 
-// Code and count, ten bits each, code lowest.
-pub fn pack_list(r: Report) -> u64
-    ensures { result ≡ packed 10 (report_fields r) }
+// Code and count, so many bits each, code lowest.
+pub fn pack_report<const BITS: u32>(r: Report) -> u64
+    requires { BITS ≤ 20 }
+    ensures { result ≡ packed BITS (report_fields r) }
 {
-    above(TEN, r.code as u32, above(TEN, r.count as u32, 0))
+    let room = 1 << BITS;
+    above(room, u32::from(r.code), above(room, u32::from(r.count), 0))
 }
 
-// The answers of the reads of document 02, twenty bits a field, code lowest.
-pub fn pack_report(r: Report) -> u64
-    ensures { result ≡ packed 20 (report_fields r) }
-{
-    above(TWENTY, r.code as u32, above(TWENTY, r.count as u32, 0))
-}
-
+// Who is the nearest, twenty bits a field, code lowest.
 pub fn pack_nearest(a: Earliest) -> u64
     ensures { result ≡ packed 20 (nearest_fields a) }
 {
