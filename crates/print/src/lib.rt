@@ -13,19 +13,13 @@ pub const LONGEST: usize = 36;
 fn digit_count(n: u16) -> usize
     ensures { (result ≡ width n) × (result ≤ 5) }
 {
-    if n < 10 {
-        return 1;
+    match n {
+        0..=9 => 1,
+        10..=99 => 2,
+        100..=999 => 3,
+        1000..=9999 => 4,
+        _ => 5,
     }
-    if n < 100 {
-        return 2;
-    }
-    if n < 1000 {
-        return 3;
-    }
-    if n < 10000 {
-        return 4;
-    }
-    5
 }
 
 // The last `count` digits of a number, from place `at` on; the last is written first.
@@ -34,9 +28,7 @@ fn put_digits(out: &mut [u8], at: usize, count: usize, n: u16)
     ensures { take (at + count) out.new ≡ take at out.old ++ digits count n }
 {
     let mut rest = n;
-    let mut i = at + count;
-    while i > at {
-        i -= 1;
+    for i in (at..at + count).rev() {
         out[i] = b'0' + ((rest % 10) as u8);
         rest /= 10;
     }

@@ -5,14 +5,12 @@ use native.Mathlib.Omega.{arith}
 use native.Mathlib.Nat.{add-zero, add-sub_cancel_left, sub_self, mod-eq_of_lt}
 use native.Mathlib.Numerals.{add-one}
 use mathlib.Core.Path.{◌≡◌, refl, sym, ap, subst, ◌∙◌}
-use mathlib.Core.Logic.{◌≢◌}
 use mathlib.Core.Bool.{Bool, true, false, cond}
 use mathlib.Core.List.{List, [], ◌∷◌, ◌++◌, append_assoc, append-nil}
 use lib.Dec.{ltb}
-use lib.ListN.{length, take, drop, set, length-append, length-set, length-replicate, replicate-append-replicate}
-use lib.Seq.{take-take}
+use lib.ListN.{length, take, drop, set, length-append, length-replicate, replicate-append-replicate}
+use lib.Seq.{take-take, drop-drop}
 use borrow.Author.Tests.{lt-ltb, le-ltb}
-use Rattle.model.specs.Text.{bytes_of}
 use Rattle.rows.specs.declared.Row.{Row}
 use Rattle.rows.specs.Printed.{spaces, aligned, name, label, printed, Written}
 use Rattle.rows.proofs.Written.{written_none, written_one, written_same, written_long, written_before, written_then, written_over, written_there}
@@ -43,21 +41,10 @@ name_length (suc zero) = refl
 name_length (suc (suc zero)) = refl
 name_length (suc (suc (suc k))) = refl
 
--- what is neither ready, park nor lock is a condition
-pub name_last : (kind : ℕ) → kind ≢ 0 → kind ≢ 1 → kind ≢ 2 → name kind ≡ bytes_of "CN"
-name_last zero a b c = absurd (a refl)
-name_last (suc zero) a b c = absurd (b refl)
-name_last (suc (suc zero)) a b c = absurd (c refl)
-name_last (suc (suc (suc k))) a b c = refl
-
 -- a row has 29 bytes
 pub printed_length : (r : Row) → length (printed r) ≡ 29
 unfolding printed
 printed_length r = simp (length-append, name_length, aligned_length)
-
--- one space more
-pub spaces_on : (at j : ℕ) {old new : List ℕ} → at + j < length new → Written at (spaces j) old new → Written at (spaces (j + 1)) old (set new (at + j) 32)
-spaces_on at j {old} {new} h w = rw (← (replicate-append-replicate {A = ℕ} j 1 32)) (written_then (ap (λ (m : ℕ). at + m) (sym (spaces_length j))) w (written_one (at + j) 32 new h))
 
 -- ---- digits, from the last to the first
 
@@ -146,18 +133,17 @@ module _ (k r : ℕ) {at j : ℕ} {done old mid : List ℕ} (b : Begun at j (suc
       same = append_assoc done (32 ∷ []) (aligned k m ++ spaces r) ∙ sym (append_assoc done (32 ∷ aligned k m) (spaces r))
 
 -- a name over the first two of 28 spaces
-module _ (at kind a b : ℕ) {old new : List ℕ} (e : a ∷ b ∷ [] ≡ name kind) (w : Written at (spaces 28) old new) where
-  pub name_room : at + 28 ≤ length new
-  name_room = omega (arith, written_long w, w.room)
-
-  one : Written at (a ∷ spaces 27) old (set new at a)
-  one = written_over at [] (32 ∷ []) (spaces 27) (a ∷ []) w refl (rw (add-zero at) (written_one at a new (omega (arith, name_room))))
-
-  pub begun_name : Begun at 2 26 (name kind) old (set (set new at a) (at + 1) b)
-  begun_name = record {
-    long = name_length kind;
-    written = rw (← e) (written_over at (a ∷ []) (32 ∷ []) (spaces 26) (b ∷ []) one refl (written_one (at + 1) b (set new at a) (simp length-set (omega (arith, name_room)))));
-  }
+pub begun_name : (at kind : ℕ) {old mid new : List ℕ} → Written at (spaces 28) old mid → new ≡ take at mid ++ (name kind ++ drop 2 (drop at mid)) → Begun at 2 26 (name kind) old new
+begun_name at kind {old} {mid} {new} w e = record {
+  long = name_length kind;
+  written = written_over at [] (spaces 2) (spaces 26) (name kind) w (name_length kind) over;
+}
+  where
+    over : Written (at + 0) (name kind) mid new
+    over = rw (add-zero at) record {
+      room = rw (name_length kind) (omega (arith, written_long w, w.room));
+      bytes = rw (name_length kind, ← (drop-drop 2 at mid)) e;
+    }
 
 -- a row's name and number
 pub labelled : (kind number : ℕ) {at : ℕ} {old new : List ℕ} → Written at (label kind number ++ spaces 22) old new → Begun at 6 22 (label kind number) old new

@@ -1,11 +1,11 @@
 // A row of the yard sheet: 28 columns and a newline, on a lent page of bytes. Assumes nothing.
 #![tactic(auto)]
 
-ghost use Rattle.std.specs.Prelude.{◌≡◌, List, [], ◌∷◌, ◌++◌, ℕ, ◌+◌, ◌≤◌, length, take, drop};
+ghost use Rattle.std.specs.Prelude.{◌≡◌, List, ◌++◌, ℕ, ◌+◌, ◌≤◌, length, take, drop};
 ghost use Rattle.rows.specs.Printed.{spaces, aligned, name, label, printed, Written};
 
 // What the row of a queue says; what the queue does not have is 0. Kinds are List's: 0 ready, 1 park, 2 lock, 3 condition.
-#[derive(Drop)]
+#[derive(Clone, Copy)]
 pub struct Row {
     pub kind: u16,
     pub number: u16,
@@ -21,11 +21,7 @@ fn blank(page: &mut [u8], at: usize)
     requires { at + 28 ≤ length page.old }
     ensures { Written at (spaces 28) page.old page.new }
 {
-    let mut column: usize = 0;
-    while column < 28 {
-        page[at + column] = b' ';
-        column += 1;
-    }
+    page[at..at + 28].fill(b' ');
 }
 
 // A number, right-aligned in the columns from `at` on, which are blank; the last digit is written first.
@@ -34,9 +30,7 @@ fn put_number(page: &mut [u8], at: usize, columns: usize, number: u16)
     ensures { take columns (drop at page.old) ≡ spaces columns → Written at (aligned columns number) page.old page.new }
 {
     let mut rest = number;
-    let mut i = at + columns;
-    while i > at {
-        i -= 1;
+    for i in (at..at + columns).rev() {
         if rest < 10 {
             page[i] = b'0' + (rest as u8);
             return;
@@ -47,36 +41,14 @@ fn put_number(page: &mut [u8], at: usize, columns: usize, number: u16)
 }
 
 // The two letters of a kind.
-#[derive(Drop)]
-pub struct Letters {
-    pub one: u8,
-    pub two: u8,
-}
-
-fn letters_of(kind: u16) -> Letters
-    ensures { result.one ∷ result.two ∷ [] ≡ name kind }
+fn letters_of(kind: u16) -> [u8; 2]
+    ensures { result ≡ name kind }
 {
-    if kind == 0 {
-        return Letters {
-            one: b'R',
-            two: b'D',
-        };
-    }
-    if kind == 1 {
-        return Letters {
-            one: b'P',
-            two: b'K',
-        };
-    }
-    if kind == 2 {
-        return Letters {
-            one: b'L',
-            two: b'K',
-        };
-    }
-    Letters {
-        one: b'C',
-        two: b'N',
+    match kind {
+        0 => *b"RD",
+        1 => *b"PK",
+        2 => *b"LK",
+        _ => *b"CN",
     }
 }
 
@@ -86,9 +58,7 @@ pub fn put_label(page: &mut [u8], at: usize, kind: u16, number: u16)
     ensures { Written at (label kind number ++ spaces 22) page.old page.new }
 {
     blank(page, at);
-    let letters = letters_of(kind);
-    page[at] = letters.one;
-    page[at + 1] = letters.two;
+    page[at..at + 2].copy_from_slice(&letters_of(kind));
     put_number(page, at + 3, 3, number);
 }
 

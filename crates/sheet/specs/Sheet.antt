@@ -1,5 +1,5 @@
 -- The yard sheet, as bytes: a page with a row for each queue. Assumes nothing.
-use Rattle.std.specs.Prelude.{ℕ, ◌+◌, ◌*◌, ◌≡◌, List, ◌++◌, length}
+use Rattle.std.specs.Prelude.{ℕ, zero, suc, ◌+◌, ◌*◌, ◌≡◌, List, ◌++◌, length}
 use Rattle.model.specs.declared.Shape.{Shape}
 use Rattle.model.specs.declared.Report.{Report}
 use Rattle.model.specs.Queue.{Queue, kind_of, number_of, first}
@@ -42,6 +42,14 @@ row s q = printed (row_of s q)
 -- the rows of the queues of a kind, m of them, in number order
 abbrev pub rows : State model → (ℕ → Queue) → ℕ → List ℕ
 rows s queue m = for_each m (λ i. row s (queue i))
+
+-- how many queues of a kind are numbered from 1 on; ready is not
+abbrev pub count_of : Shape → ℕ → ℕ
+count_of n zero = 0
+count_of n (suc zero) = n.parks
+count_of n (suc (suc zero)) = n.locks
+count_of n (suc (suc (suc zero))) = n.conditions
+count_of n (suc (suc (suc (suc k)))) = 0
 
 -- ready, parks, locks, conditions
 unfoldable pub page : Shape → State model → List ℕ

@@ -1,17 +1,68 @@
 -- The law of packing, over every width and every list of fields: fields of w bits come back, and with them the answer whose fields they are.
 -- Assumes nothing.
-use Prim.Native.Nat.{ℕ, ◌+◌, ◌*◌, ◌/◌, ◌%◌, ◌^◌, ◌<◌}
-use native.Mathlib.Nat.{zero-add, mod-eq_of_lt, div-eq_of_lt, div-div-eq-div-mul, add-mul-mod_self_left, add-mul-div_left}
+use Prim.Native.Nat.{ℕ, ◌+◌, ◌*◌, ◌/◌, ◌%◌, ◌^◌, ◌<◌, ◌≤◌}
+use native.Mathlib.Omega.{arith}
+use native.Mathlib.Nat.{zero-add, one-mul, mul-suc, mul-le-mul_left, mul-lt-mul_of_pos_left, mod-lt, pow-le-pow_right, mod-eq_of_lt, div-eq_of_lt, div-div-eq-div-mul, add-mul-mod_self_left, add-mul-div_left}
 use mathlib.Core.Path.{◌≡◌, refl, sym, ap, ◌∙◌}
-use mathlib.Core.List.{List, [], ◌∷◌}
-use lib.ListN.{length, get_or}
-use lib.Pow.{pow_pos}
+use mathlib.Core.List.{List, [], ◌∷◌, ◌++◌, append_assoc, append-nil}
+use lib.ListN.{length, get_or, length-append}
+use lib.Pow.{pow_pos, pow-add}
 use Rattle.model.specs.declared.Answer.{Answer}
 use Rattle.model.specs.declared.Report.{Report}
 use Rattle.model.specs.Queue.{All}
 use Rattle.model.specs.Machine.{fields_of}
 use Rattle.timers.specs.declared.Earliest.{Earliest}
 use Rattle.wire.specs.Wire.{packed, unpacked, Carries, report_fields, nearest_fields, answer_of, report_of, nearest_of}
+
+-- ---- the last field first
+
+-- how many numbers at most twenty bits hold is shifted in 64
+pub room_of : (w : ℕ) → w ≤ 20 → 1 * 2 ^ w % 2 ^ 64 ≡ 2 ^ w
+room_of w h = let e = pow-le-pow_right {n = 2} (omega arith) h in rw one-mul (mod-eq_of_lt (omega (arith, e)))
+
+-- fields have no more bits than theirs together
+packed_small : (w : ℕ) (xs : List ℕ) → packed w xs < 2 ^ (w * length xs)
+packed_small w [] = pow_pos (w * 0)
+packed_small w (x ∷ xs) = rw (mul-suc, pow-add) (go (packed_small w xs) (mod-lt x (pow_pos w)))
+  where
+    go : packed w xs < 2 ^ (w * length xs) → x % 2 ^ w < 2 ^ w → x % 2 ^ w + 2 ^ w * packed w xs < 2 ^ (w * length xs) * 2 ^ w
+    go h l = omega (arith, l, mul-le-mul_left (2 ^ w) h)
+
+-- of the fields, the rest are to come, and the others are in the number
+pub record Partly (w : ℕ) (fields rest : List ℕ) (number : ℕ) : Type 0 where
+  pub done : List ℕ
+  pub whole : fields ≡ rest ++ done
+  pub made : number ≡ packed w done
+
+-- none is in it yet
+pub partly_start : (w : ℕ) {fields rest : List ℕ} → rest ≡ fields → Partly w fields rest 0
+partly_start w e = record { done = []; whole = sym (append-nil _ ∙ e); made = refl }
+
+module _ {w : ℕ} {fields rest : List ℕ} {number : ℕ} (p : Partly w fields rest number) where
+  -- one more comes below
+  pub partly_on : (x : ℕ) {left : List ℕ} → rest ≡ left ++ (x ∷ []) → Partly w fields left (x % 2 ^ w + 2 ^ w * number)
+  partly_on x {left} e = record { done = x ∷ p.done; whole = p.whole ∙ rw e (append_assoc left (x ∷ []) p.done); made = ap (λ (m : ℕ). x % 2 ^ w + 2 ^ w * m) p.made }
+
+  -- there is room for it
+  pub partly_room : (x : ℕ) (left : List ℕ) → rest ≡ left ++ (x ∷ []) → w ≤ 20 → w * length fields ≤ 60 → (0 < 2 ^ w) × (2 ^ w ≤ 2 ^ 20) × (2 ^ w * number < 2 ^ 60)
+  partly_room x left e h fits = (pow_pos w, pow-le-pow_right (omega arith) h, omega (arith, less, most))
+    where
+      less : 2 ^ w * number < 2 ^ (w + w * length p.done)
+      less = rw (pow-add, p.made) (mul-lt-mul_of_pos_left (packed_small w p.done) (pow_pos w))
+
+      long : length fields ≡ length left + 1 + length p.done
+      long = ap length p.whole ∙ rw (e, length-append, length-append) refl
+
+      bits : w + w * length p.done ≤ 60
+      bits = let more = mul-le-mul_left {m = 1 + length p.done} {n = length left + 1 + length p.done} w (omega arith) in omega (arith, rw long at fits, more)
+
+      most : 2 ^ (w + w * length p.done) ≤ 2 ^ 60
+      most = pow-le-pow_right {n = 2} (omega arith) bits
+
+-- all are
+pub partly_end : {w : ℕ} {fields rest : List ℕ} {number : ℕ} → length rest ≡ 0 → Partly w fields rest number → number ≡ packed w fields
+partly_end {w} {rest = []} e p = p.made ∙ ap (packed w) (sym p.whole)
+partly_end {rest = x ∷ xs} e p = absurd (omega arith)
 
 -- each field has w bits
 abbrev pub Fit : ℕ → List ℕ → Type 0

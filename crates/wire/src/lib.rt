@@ -1,68 +1,60 @@
 // Answers as numbers, in which they cross to C and stand in a log: a field in so many bits, the code lowest. Assumes nothing.
 #![tactic(auto)]
 
-ghost use Rattle.std.specs.Prelude.{◌≡◌, ◌+◌, ◌*◌, ◌%◌, ◌^◌, ◌≤◌, ◌<◌};
+ghost use Rattle.std.specs.Prelude.{◌≡◌, length, ◌+◌, ◌*◌, ◌%◌, ◌^◌, ◌≤◌, ◌<◌};
 ghost use Rattle.wire.specs.Wire.{packed, report_fields, nearest_fields, number_of};
 
 use model::{Answer, Report};
 use timers::Earliest;
-
-// As many numbers as ten bits hold, and as twenty.
-const TEN: u64 = 1024;
-
-const TWENTY: u64 = 1048576;
 
 // A field, in bits that hold so many numbers, and the others above them.
 fn above(room: u64, low: u32, high: u64) -> u64
     requires { (0 < room) × (room ≤ 2 ^ 20) × (room * high < 2 ^ 60) }
     ensures { result ≡ low % room + room * high }
 {
-    low as u64 % room + room * high
+    u64::from(low) % room + room * high
+}
+
+// Fields in one number, so many bits each, the first lowest.
+#[inline(always)]
+fn packed<const BITS: u32>(fields: &[u32]) -> u64
+    requires narrow { BITS ≤ 20 }
+    requires fits { BITS * length fields.now ≤ 60 }
+    ensures { result ≡ packed BITS fields.now }
+{
+    let room = 1 << BITS;
+    let mut number = 0;
+    for field in fields.iter().rev() {
+        number = above(room, *field, number);
+    }
+    number
 }
 
 // Ten bits a field, code lowest.
 pub fn pack(a: Answer) -> u64
     ensures { result ≡ number_of a }
 {
-    above(
-        TEN,
-        a.code as u32,
-        above(
-            TEN,
-            a.running as u32,
-            above(
-                TEN,
-                a.retry as u32,
-                above(
-                    TEN,
-                    a.mark as u32,
-                    above(TEN, a.moved as u32, above(TEN, a.ahead as u32, 0)),
-                ),
-            ),
-        ),
-    )
+    packed::<10>(&[
+        u32::from(a.code),
+        u32::from(a.running),
+        u32::from(a.retry),
+        u32::from(a.mark),
+        u32::from(a.moved),
+        u32::from(a.ahead),
+    ])
 }
 
-// Code and count, ten bits each, code lowest.
-pub fn pack_list(r: Report) -> u64
-    ensures { result ≡ packed 10 (report_fields r) }
+// Code and count, so many bits each, code lowest.
+pub fn pack_report<const BITS: u32>(r: Report) -> u64
+    requires { BITS ≤ 20 }
+    ensures { result ≡ packed BITS (report_fields r) }
 {
-    above(TEN, r.code as u32, above(TEN, r.count as u32, 0))
+    packed::<BITS>(&[u32::from(r.code), u32::from(r.count)])
 }
 
-// The answers of the reads of document 02, twenty bits a field, code lowest.
-pub fn pack_report(r: Report) -> u64
-    ensures { result ≡ packed 20 (report_fields r) }
-{
-    above(TWENTY, r.code as u32, above(TWENTY, r.count as u32, 0))
-}
-
+// Who is the nearest, twenty bits a field, code lowest.
 pub fn pack_nearest(a: Earliest) -> u64
     ensures { result ≡ packed 20 (nearest_fields a) }
 {
-    above(
-        TWENTY,
-        a.code,
-        above(TWENTY, a.process, above(TWENTY, a.left, 0)),
-    )
+    packed::<20>(&[a.code, a.process, a.left])
 }

@@ -6,46 +6,6 @@ use Rattle.print.specs.Print.{field}
 use Rattle.print.proofs.Digits.{six}
 use Rattle.print.proofs.line.Goals as goal
 
-pub put_field-b-requires : goal.put_field-b-requires
-put_field-b-requires c =
-    let pre = c.requires in
-    let put_field = c.put_field-a in
-    omega (arith, put_field.ensures.near, put_field.auto.out, pre)
-
-pub put_field-c-requires : goal.put_field-c-requires
-put_field-c-requires c =
-    let pre = c.requires in
-    let put_field = c.put_field-a in
-    let put_field2 = c.put_field-b in
-    omega (arith, put_field2.ensures.near, put_field2.auto.out, put_field.ensures.near, put_field.auto.out, pre)
-
-pub put_field-d-requires : goal.put_field-d-requires
-put_field-d-requires c =
-    let pre = c.requires in
-    let put_field = c.put_field-a in
-    let put_field2 = c.put_field-b in
-    let put_field3 = c.put_field-c in
-    omega (arith, put_field3.ensures.near, put_field3.auto.out, put_field2.ensures.near, put_field2.auto.out, put_field.ensures.near, put_field.auto.out, pre)
-
-pub put_field-e-requires : goal.put_field-e-requires
-put_field-e-requires c =
-    let pre = c.requires in
-    let put_field = c.put_field-a in
-    let put_field2 = c.put_field-b in
-    let put_field3 = c.put_field-c in
-    let put_field4 = c.put_field-d in
-    omega (arith, put_field4.ensures.near, put_field4.auto.out, put_field3.ensures.near, put_field3.auto.out, put_field2.ensures.near, put_field2.auto.out, put_field.ensures.near, put_field.auto.out, pre)
-
-pub put_field-requires : goal.put_field-requires
-put_field-requires c =
-    let pre = c.requires in
-    let put_field = c.put_field-a in
-    let put_field2 = c.put_field-b in
-    let put_field3 = c.put_field-c in
-    let put_field4 = c.put_field-d in
-    let put_field5 = c.put_field-e in
-    omega (arith, put_field5.ensures.near, put_field5.auto.out, put_field4.ensures.near, put_field4.auto.out, put_field3.ensures.near, put_field3.auto.out, put_field2.ensures.near, put_field2.auto.out, put_field.ensures.near, put_field.auto.out, pre)
-
 pub returns : goal.returns
 returns c =
     let args = c.args in

@@ -5,21 +5,6 @@ use Rattle.rows.proofs.Written.{written_long}
 use Rattle.rows.proofs.Numbers.{labelled, begun_on, begun_end}
 use Rattle.rows.proofs.put_rest.Goals as goal
 
-pub put_number-requires-2 : goal.put_number-requires-2
-put_number-requires-2 c = omega (arith, c.requires, c.put_number.auto.page)
-
-pub put_number-requires-3 : goal.put_number-requires-3
-put_number-requires-3 c = omega (arith, c.requires, c.put_number.auto.page, c.put_number-2.auto.page)
-
-pub put_number-requires-4 : goal.put_number-requires-4
-put_number-requires-4 c = omega (arith, c.requires, c.put_number.auto.page, c.put_number-2.auto.page, c.put_number-3.auto.page)
-
-pub put_number-requires-5 : goal.put_number-requires-5
-put_number-requires-5 c = omega (arith, c.requires, c.put_number.auto.page, c.put_number-2.auto.page, c.put_number-3.auto.page, c.put_number-4.auto.page)
-
-pub bounds-page-at : goal.bounds-page-at
-bounds-page-at c = omega (arith, c.requires, c.put_number.auto.page, c.put_number-2.auto.page, c.put_number-3.auto.page, c.put_number-4.auto.page, c.put_number-5.auto.page)
-
 pub returns : goal.returns
 returns c old w =
     let r = c.args.row in

@@ -10,4 +10,4 @@ pub overflow_add-result : goal.overflow_add-result
 overflow_add-result c = record { fits = omega (arith, mod-lt c.args.low c.requires.0, c.requires.1, c.requires.2) }
 
 pub returns : goal.returns
-returns c = omega arith
+returns c = rw c.from.ensures (omega arith)
