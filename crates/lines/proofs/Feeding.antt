@@ -4,17 +4,13 @@ use native.Mathlib.Decide.{dec_lt}
 use native.Mathlib.Omega.{arith}
 use mathlib.Core.Path.{◌≡◌, refl, sym, ap, ◌∙◌, subst}
 use mathlib.Core.Logic.{◌≢◌}
-use mathlib.Core.Bool.{true, false, true≢false}
+use Rattle.std.specs.Prelude.{Some}
 use mathlib.Core.List.{List, [], ◌∷◌, ◌++◌, append_assoc, append-nil}
-use lib.Dec.{T, ltb→lt}
-use lib.IntN.{ℤ, pos, negsuc}
-use lib.Signed.{lt_z}
 use lib.ListN.{length, get_or, take, drop, set, length-take}
 use lib.Seq.{length-take-le, take_all, take-nil, take-suc, take-append-le, take-append-add}
 use borrow.Rule.Slice.PartMut.{mid_of, post_of, put_mid}
 use Rattle.model.specs.Run.Run.{none, then}
 use Rattle.model.proofs.Runs.{run_append}
-use Rattle.io.specs.Counts.{clamp_len}
 use Rattle.script.specs.Line.{Meaning, meaning}
 use Rattle.serve.specs.Serve.{Serves}
 use Rattle.lines.specs.Lines.{ended, rest, last, joined, Answered, Puts, Progress, progress, After, Feeds, Closes, TakesIn}
@@ -69,10 +65,10 @@ module _ {begun input told line area : List ℕ} {fill : ℕ} (A : After begun i
   as_open : (new out : List ℕ) → 8192 < length line → Serves (meaning (take fill line)) area new out → Serves (meaning (rest [] input)) area new out
   as_open new out h S = subst (λ (m : Meaning). Serves m area new out) (kept_meaning line (rest [] input) fill A.kept h) S
 
-  after_newline : (b : ℕ) (new out : List ℕ) → b ≡ 10 → 8192 < length line → Serves (meaning (take fill line)) area new out → After begun (input ++ (b ∷ [])) (progress line 0 new) (told ++ out)
-  after_newline b new out e h S = record {
-    answered = subst (λ (ls : List (List ℕ)). Answered ls begun new (told ++ out)) (sym (ended_newline [] input b e)) (answered_more (rest [] input) new out A.answered (as_open new out h S));
-    kept = sym (ap (take (length line)) (rest_newline [] input b e) ∙ take-nil (length line));
+  after_newline : (b : ℕ) (h : Progress) (out : List ℕ) → h.fill ≡ 0 → b ≡ 10 → 8192 < length line → Serves (meaning (take fill line)) area h.area out → After begun (input ++ (b ∷ [])) h (told ++ out)
+  after_newline b h out z e l S = record {
+    answered = subst (λ (ls : List (List ℕ)). Answered ls begun h.area (told ++ out)) (sym (ended_newline [] input b e)) (answered_more (rest [] input) h.area out A.answered (as_open h.area out l S));
+    kept = rw (z, rest_newline [] input b e) (sym (take-nil (length h.line)));
   }
 
 -- ---- a piece, byte by byte
@@ -89,22 +85,16 @@ module _ {h₀ : Progress} {xs line area out : List ℕ} {fill : ℕ} (F : Feeds
   feeds_over e h l begun input told A =
       subst (λ (i : List ℕ). After begun i (progress line fill area) (told ++ out)) (append_assoc input xs (b ∷ [])) (after_over (F begun input told A) b e h l)
 
-  pub feeds_newline : (new out' : List ℕ) → b ≡ 10 → 8192 < length line → Puts (take fill line) area new out out' → Feeds (xs ++ (b ∷ [])) h₀ (progress line 0 new) out'
-  feeds_newline new out' e h (o, S, d) begun input told A =
-      subst (λ (i : List ℕ). After begun i (progress line 0 new) (told ++ out')) (append_assoc input xs (b ∷ []))
-      (subst (After begun (input ++ xs ++ (b ∷ [])) (progress line 0 new)) (append_assoc told out o ∙ ap (λ (t : List ℕ). told ++ t) (sym d)) (after_newline (F begun input told A) b new o e h S))
+  pub feeds_newline : (h : Progress) (out' : List ℕ) → h.fill ≡ 0 → b ≡ 10 → 8192 < length line → Puts (take fill line) area h.area out out' → Feeds (xs ++ (b ∷ [])) h₀ h out'
+  feeds_newline h out' z e l (o, S, d) begun input told A =
+      subst (λ (i : List ℕ). After begun i h (told ++ out')) (append_assoc input xs (b ∷ []))
+      (subst (After begun (input ++ xs ++ (b ∷ [])) h) (append_assoc told out o ∙ ap (λ (t : List ℕ). told ++ t) (sym d)) (after_newline (F begun input told A) b h o z e l S))
 
 -- the byte at i is fed behind those before it
 pub feeds_on : (piece : List ℕ) (i : ℕ) {h h' : Progress} {out : List ℕ} → i < length piece → Feeds (take i piece ++ (get_or piece i 0 ∷ [])) h h' out → Feeds (take (i + 1) piece) h h' out
 feeds_on piece i {h} {h'} {out} l F =
     let e : i + 1 ≡ suc i = omega arith in
     subst (λ (xs : List ℕ). Feeds xs h h' out) (sym (ap (λ (n : ℕ). take n piece) e ∙ take-suc piece i 0 l)) F
-
--- and what has come of it may go by other names
-pub feeds_as : {piece line line' area area' out out' : List ℕ} {h : Progress} {fill fill' full full' : ℕ} → line' ≡ line → fill' ≡ fill → area' ≡ area → full' ≡ full → out' ≡ out
-    → Feeds piece h (progress line fill area) (take full out) → Feeds piece h (progress line' fill' area') (take full' out')
-feeds_as {piece} {line} {area = area} {out' = out'} {h} {fill} {full' = full'} l f a u o F =
-    subst (λ (x : Progress). Feeds piece h x (take full' out')) (λ i. progress (sym l i) (sym f i) (sym a i)) (subst (Feeds piece h (progress line fill area)) (λ i. take (sym u i) (sym o i)) F)
 
 -- ---- the end of the input
 
@@ -114,23 +104,15 @@ module _ (line area : List ℕ) (fill : ℕ) where
       subst (Answered (ended [] input ++ last (rest [] input)) begun area) (sym (append-nil told))
       (subst (λ (ls : List (List ℕ)). Answered ls begun area told) (sym (ap (λ (o : List ℕ). ended [] input ++ last o) (kept_none line (rest [] input) fill A.kept h z) ∙ append-nil (ended [] input))) A.answered)
 
-  pub closes_some : (new out : List ℕ) → 0 < fill → fill ≤ length line → 8192 < length line → Puts (take fill line) area new [] out → Closes (progress line fill area) (progress line fill new) out
-  closes_some new out h l k (o, S, d) begun input told A =
+  pub closes_some : (h' : Progress) (out : List ℕ) → 0 < fill → fill ≤ length line → 8192 < length line → Puts (take fill line) area h'.area [] out → Closes (progress line fill area) h' out
+  closes_some h' out h l k (o, S, d) begun input told A =
+      let new = h'.area in
       subst (Answered (ended [] input ++ last (rest [] input)) begun new) (ap (λ (t : List ℕ). told ++ t) (sym d))
       (subst (λ (ls : List (List ℕ)). Answered ls begun new (told ++ o)) (ap (λ (ls : List (List ℕ)). ended [] input ++ ls) (sym (kept_some line (rest [] input) fill A.kept h l)))
       (answered_more (rest [] input) new o A.answered (as_open A new o k S)))
 
 -- ---- what a read answered
 
-pub takes_none : (chunk : List ℕ) (h : Progress) (got : ℤ) → lt_z got (pos 0) ≡ true → TakesIn got chunk h h []
-takes_none chunk h (pos k) e = let l = ltb→lt k 0 (subst T (sym e) tt) in let w : ⊥ = omega arith in absurd w
-takes_none chunk h (negsuc k) e = (refl, refl)
-
-module _ (chunk out : List ℕ) (h h' : Progress) where
-  pub takes_end : (got : ℤ) → got ≡ pos 0 → Closes h h' out → TakesIn got chunk h h' out
-  takes_end got e C = subst (λ (z : ℤ). TakesIn z chunk h h' out) (sym e) C
-
-  pub takes_piece : (got : ℤ) (n : ℕ) → lt_z got (pos 0) ≡ false → got ≢ pos 0 → n ≡ clamp_len got (length chunk) → Feeds (take n chunk) h h' out → TakesIn got chunk h h' out
-  takes_piece (pos zero) n e z k F = absurd (z refl)
-  takes_piece (pos (suc m)) n e z k F = subst (λ (xs : List ℕ). Feeds xs h h' out) (ap (λ (i : ℕ). take i chunk) k ∙ take_min (suc m) chunk) F
-  takes_piece (negsuc m) n e z k F = absurd (true≢false e)
+pub takes_piece : {h h' : Progress} {out : List ℕ} (chunk : List ℕ) (n : ℕ) → n ≢ 0 → Feeds (take (min n (length chunk)) chunk) h h' out → TakesIn (Some n) chunk h h' out
+takes_piece chunk zero z F = absurd (z refl)
+takes_piece {h} {h'} {out} chunk (suc k) z F = subst (λ (xs : List ℕ). Feeds xs h h' out) (take_min (suc k) chunk) F

@@ -4,11 +4,9 @@ use Prim.Native.Nat.{ℕ, zero, suc}
 use native.Mathlib.Decide.{ℕ_discrete}
 use mathlib.Core.Path.{◌≡◌, refl, sym, ap, ◌∙◌, subst}
 use mathlib.Core.Logic.Dec
-use mathlib.Core.Logic.{inl, inr}
-use mathlib.Core.Bool.{true, false≢true}
+use mathlib.Core.Logic.{◌≢◌, inl, inr}
 use mathlib.Core.List.{List, [], ◌∷◌, ◌++◌, append_assoc, append-nil}
-use lib.IntN.{ℤ, pos, negsuc}
-use lib.Signed.{lt_z}
+use Rattle.std.specs.Prelude.{Option, Some, None}
 use lib.ListN.{length, take}
 use Rattle.model.specs.Run.{Run}
 use Rattle.model.specs.Run.Run.{none, then}
@@ -73,24 +71,24 @@ whole = record {
 
 -- ---- read by read
 
--- after a read that answered so: the input has come to its end, or is open still
-abbrev pub AfterRead : ℤ → List ℕ → Progress → Type 0
-AfterRead (pos zero) begun h = (input told : List ℕ) × Answered (lines_of input) begun h.area told
-AfterRead (pos (suc k)) begun h = (input told : List ℕ) × After begun input h told
-AfterRead (negsuc k) begun h = (input told : List ℕ) × After begun input h told
+-- between two reads: some input was fed, and it is open still
+abbrev pub Open : List ℕ → Progress → Type 0
+Open begun h = (input told : List ℕ) × After begun input h told
 
-pub read_first : (line begun : List ℕ) → AfterRead (pos 1) begun (progress line 0 begun)
-read_first line begun = ([], [], after_none line begun)
+pub open_first : (h : Progress) → h.fill ≡ 0 → Open h.area h
+open_first h z = ([], [], subst (λ (k : ℕ). After h.area [] (progress h.line k h.area) []) (sym z) (after_none h.line h.area))
 
--- where there was more to come, the next read goes on
-pub read_next : (got next : ℤ) (begun bytes out : List ℕ) (h h' : Progress) → lt_z (pos 0) got ≡ true → AfterRead got begun h → TakesIn next bytes h h' out → AfterRead next begun h'
-read_next (pos zero) next begun bytes out h h' e S T = absurd (false≢true e)
-read_next (pos (suc k)) (pos zero) begun bytes out h h' e (input, told, A) T = (input, told ++ out, T begun input told A)
-read_next (pos (suc k)) (pos (suc n)) begun bytes out h h' e (input, told, A) T = (input ++ take (suc n) bytes, told ++ out, T begun input told A)
-read_next (pos (suc k)) (negsuc n) begun bytes out h h' e (input, told, A) T = (input, told, subst (λ (x : Progress). After begun input x told) (sym T.0) A)
-read_next (negsuc k) next begun bytes out h h' e S T = absurd (false≢true e)
+pub open_left : (begun : List ℕ) (h : Progress) → Open begun h → Rehearsed begun h.area
+open_left begun h (input, told, A) = (input, told, inr A.answered)
 
-pub read_last : (got : ℤ) (begun : List ℕ) (h : Progress) → AfterRead got begun h → Rehearsed begun h.area
-read_last (pos zero) begun h (input, told, N) = (input, told, inl N)
-read_last (pos (suc k)) begun h (input, told, A) = (input, told, inr A.answered)
-read_last (negsuc k) begun h (input, told, A) = (input, told, inr A.answered)
+module _ (begun bytes out : List ℕ) (h h' : Progress) (O : Open begun h) where
+  -- a piece leaves it open
+  pub open_next : (n : ℕ) → n ≢ 0 → TakesIn (Some n) bytes h h' out → Open begun h'
+  open_next zero z T = absurd (z refl)
+  open_next (suc k) z T = (O.0 ++ take (suc k) bytes, O.1 ++ out, T begun O.0 O.1 O.2)
+
+  -- and whatever a read answers, what it leaves is what one input leaves
+  pub read_left : (got : Option ℕ) → TakesIn got bytes h h' out → Rehearsed begun h'.area
+  read_left (Some zero) T = (O.0, O.1 ++ out, inl (T begun O.0 O.1 O.2))
+  read_left (Some (suc k)) T = open_left begun h' (O.0 ++ take (suc k) bytes, O.1 ++ out, T begun O.0 O.1 O.2)
+  read_left None T = subst (λ (x : Progress). Rehearsed begun x.area) (sym T.0) (open_left begun h O)

@@ -1,5 +1,5 @@
 -- How input is cut into lines, and what Rehearse promises of it: of each piece that is fed, and of a whole input. Assumes nothing.
-use Rattle.std.specs.Prelude.{ℕ, zero, suc, ◌≡◌, ◌⊎◌, cond, List, [], ◌∷◌, ◌++◌, eqb, ℤ, pos, negsuc, length, take}
+use Rattle.std.specs.Prelude.{ℕ, zero, suc, ◌≡◌, ◌⊎◌, cond, Option, Some, None, List, [], ◌∷◌, ◌++◌, eqb, length, take}
 use Rattle.model.specs.Run.{Run}
 use Rattle.script.specs.Line.{meaning}
 use Rattle.serve.specs.Serve.{Serves, Played}
@@ -64,12 +64,12 @@ Feeds piece h h' out = (begun input told : List ℕ) → After begun input h tol
 abbrev pub Closes : Progress → Progress → List ℕ → Type 0
 Closes h h' out = (begun input told : List ℕ) → After begun input h told → Answered (lines_of input) begun h'.area (told ++ out)
 
--- what C's read answered, with the bytes that it was lent: so many of them are a piece; none is the end of the input; a read that failed
+-- what a read answered, with the bytes that it was lent: so many of them are a piece; none is the end of the input; a read that failed
 -- brings nothing and ends no line
-abbrev pub TakesIn : ℤ → List ℕ → Progress → Progress → List ℕ → Type 0
-TakesIn (pos zero) bytes h h' out = Closes h h' out
-TakesIn (pos (suc k)) bytes h h' out = Feeds (take (suc k) bytes) h h' out
-TakesIn (negsuc k) bytes h h' out = (h' ≡ h) × (out ≡ [])
+abbrev pub TakesIn : Option ℕ → List ℕ → Progress → Progress → List ℕ → Type 0
+TakesIn (Some zero) bytes h h' out = Closes h h' out
+TakesIn (Some (suc k)) bytes h h' out = Feeds (take (suc k) bytes) h h' out
+TakesIn None bytes h h' out = (h' ≡ h) × (out ≡ [])
 
 -- ---- a whole input
 

@@ -1,119 +1,153 @@
-// Input in pieces, as C's read brings it: cut into lines, each line served, the answers gathered for one write. Assumes nothing.
+// Input in pieces, as reads bring it: cut into lines, each line served, the answers gathered for one write. Assumes nothing.
 #![tactic(auto)]
 
-ghost use Rattle.std.specs.Prelude.{◌+◌, ◌*◌, ◌≤◌, ◌<◌, length, take};
+ghost use Rattle.std.specs.Prelude.{◌≡◌, ◌+◌, ◌*◌, ◌≤◌, ◌<◌, length, take, slice_set};
 ghost use Rattle.print.specs.Print.{longest};
-ghost use Rattle.lines.specs.Lines.{progress, Puts, Feeds, Closes, TakesIn};
 
-// One whole line: its answer goes behind the `full` bytes that are to be put out. Tells how many they are then.
-fn answer(
-    line: &[u8],
-    table: &mut [u16],
-    bytes: &mut [u8],
-    area: &mut [u16],
-    out: &mut [u8],
-    full: usize,
-) -> usize
-    requires in_bounds { 8192 ≤ length table.old }
-    requires in_bounds_2 { 8192 ≤ length bytes.old }
-    requires longest_in_bounds { full + longest ≤ length out.old }
-    ensures upper_bound { result ≤ full + longest }
-    ensures puts { Puts line.now area.old area.new (take full out.old) (take result out.new) }
-{
-    let end = full + print::LONGEST;
-    let n = serve::serve(line, table, bytes, area, &mut out[full..end]);
-    full + n
+use serve::Desk;
+
+// Room for bytes, and how many are there, at its front.
+#[derive(Drop)]
+pub struct Buffer<'a> {
+    pub room: &'a mut [u8],
+    pub fill: usize,
+    pub ghost within: { fill ≤ length room.now },
 }
 
-// The bytes of one piece. A line's bytes past the end of `line` are dropped. The answer is how many bytes are to be put out.
-fn feed(
-    piece: &[u8],
-    line: &mut [u8],
-    fill: &mut usize,
-    table: &mut [u16],
-    bytes: &mut [u8],
-    area: &mut [u16],
-    out: &mut [u8],
-) -> usize
-    requires in_bounds { 8192 < length line.old }
-    requires fill_in_bounds { fill.old ≤ length line.old }
-    requires in_bounds_2 { 8192 ≤ length table.old }
-    requires in_bounds_3 { 8192 ≤ length bytes.old }
-    requires longest_in_bounds { length piece.now * longest ≤ length out.old }
-    ensures upper_bound { result ≤ length out.old }
-    ensures fill_in_bounds_2 { fill.new ≤ length line.old }
-    ensures feeds { Feeds piece.now (progress line.old fill.old area.old) (progress line.new fill.new area.new) (take result out.new) }
-{
-    let mut at = *fill;
-    let mut full: usize = 0;
-    let mut i = 0;
-    while i < piece.len() {
-        let b = piece[i];
-        if b == b'\n' {
-            full = answer(&line[..at], table, bytes, area, out, full);
-            at = 0;
-        } else if at < line.len() {
-            line[at] = b;
-            at += 1;
+impl<'a> Buffer<'a> {
+    ghost use Rattle.serve.specs.Desk.{SameSlice};
+
+    fn new(room: &'a mut [u8]) -> Buffer<'a>
+        ensures lent { result.room ≡ room.entry }
+        ensures empty { result.fill ≡ 0 }
+    {
+        Buffer { room, fill: 0 }
+    }
+
+    pub fn bytes(&self) -> &[u8]
+        ensures { result.now ≡ take self.now.fill self.now.room.now }
+    {
+        &self.room[..self.fill]
+    }
+
+    fn clear(&mut self)
+        ensures empty { self.new.fill ≡ 0 }
+        ensures same_room { self.new.room ≡ self.old.room }
+    {
+        self.fill = 0;
+    }
+
+    // One byte more, where there is room for it.
+    fn push(&mut self, b: u8)
+        ensures over { length self.old.room.now ≤ self.old.fill → self.new ≡ self.old }
+        ensures counted { self.old.fill < length self.old.room.now → self.new.fill ≡ self.old.fill + 1 }
+        ensures stored { self.old.fill < length self.old.room.now → self.new.room.now ≡ slice_set self.old.room.now self.old.fill b }
+        ensures same_slice { SameSlice self.old.room self.new.room }
+    {
+        if self.fill < self.room.len() {
+            self.room[self.fill] = b;
+            self.fill += 1;
         }
-        i += 1;
     }
-    *fill = at;
-    full
 }
 
-// The end of the input: the last line, where it lacks its newline. The answer is how many bytes are to be put out.
-fn close(
-    line: &[u8],
-    fill: usize,
-    table: &mut [u16],
-    bytes: &mut [u8],
-    area: &mut [u16],
-    out: &mut [u8],
-) -> usize
-    requires in_bounds { 8192 < length line.now }
-    requires fill_in_bounds { fill ≤ length line.now }
-    requires in_bounds_2 { 8192 ≤ length table.old }
-    requires in_bounds_3 { 8192 ≤ length bytes.old }
-    requires longest_in_bounds { longest ≤ length out.old }
-    ensures upper_bound { result ≤ length out.old }
-    ensures closes { Closes (progress line.now fill area.old) (progress line.now fill area.new) (take result out.new) }
-{
-    if fill == 0 {
-        return 0;
-    }
-    answer(&line[..fill], table, bytes, area, out, 0)
+// The desk that serves the lines of an input, the line that is open, of which the bytes past its room are dropped, and the answers to what was taken
+// in last.
+#[derive(Drop)]
+pub struct Session<'a> {
+    pub desk: Desk<'a>,
+    pub line: Buffer<'a>,
+    pub answers: Buffer<'a>,
+    pub ghost line_fits: { 8192 < length line.room.now },
+    pub ghost answer_fits: { longest ≤ length answers.room.now },
 }
 
-// What C's read answered, and the bytes that it was lent: a piece, the end of the input, or nothing where the read failed. The answer is how many
-// bytes are to be put out.
-pub fn take_in(
-    got: isize,
-    chunk: &[u8],
-    line: &mut [u8],
-    fill: &mut usize,
-    table: &mut [u16],
-    bytes: &mut [u8],
-    area: &mut [u16],
-    out: &mut [u8],
-) -> usize
-    requires in_bounds { 8192 < length line.old }
-    requires fill_in_bounds { fill.old ≤ length line.old }
-    requires in_bounds_2 { 8192 ≤ length table.old }
-    requires in_bounds_3 { 8192 ≤ length bytes.old }
-    requires longest_in_bounds { longest ≤ length out.old }
-    requires longest_in_bounds_2 { length chunk.now * longest ≤ length out.old }
-    ensures upper_bound { result ≤ length out.old }
-    ensures fill_in_bounds_2 { fill.new ≤ length line.old }
-    ensures takes_in { TakesIn got chunk.now (progress line.old fill.old area.old) (progress line.new fill.new area.new) (take result out.new) }
-{
-    if got < 0 {
-        return 0;
+impl<'a> Session<'a> {
+    ghost use Rattle.lines.specs.Lines.{Puts, Feeds, Closes, TakesIn};
+    ghost use Rattle.lines.specs.Session.{progress_of, told, SameSlices};
+
+    // Nothing is taken in yet.
+    pub fn new(desk: Desk<'a>, line: &'a mut [u8], answers: &'a mut [u8]) -> Session<'a>
+        requires line_fits { 8192 < length line.old }
+        requires answer_fits { longest ≤ length answers.old }
+        ensures desk { result.desk ≡ desk.entry }
+        ensures line { result.line.room ≡ line.entry }
+        ensures answers { result.answers.room ≡ answers.entry }
+        ensures empty { result.line.fill ≡ 0 }
+    {
+        Session {
+            desk,
+            line: Buffer::new(line),
+            answers: Buffer::new(answers),
+        }
     }
-    if got == 0 {
-        let last = *fill;
-        return close(line, last, table, bytes, area, out);
+
+    // A new input: no line of it is open.
+    pub fn begin(&mut self)
+        ensures empty { self.new.line.fill ≡ 0 }
+        ensures same_area { self.new.desk ≡ self.old.desk }
+        ensures same_slices { SameSlices self.old self.new }
+    {
+        self.line.clear();
     }
-    let n = io::count(got, chunk);
-    feed(&chunk[..n], line, fill, table, bytes, area, out)
+
+    // The open line is whole: its answer goes behind those that are there, and the next line begins.
+    fn answer(&mut self)
+        requires answer_fits { self.old.answers.fill + longest ≤ length self.old.answers.room.now }
+        ensures within { self.new.answers.fill ≤ self.old.answers.fill + longest }
+        ensures puts { Puts (take self.old.line.fill self.old.line.room.now) self.old.desk.area.now self.new.desk.area.now (told self.old) (told self.new) }
+        ensures next { self.new.line.fill ≡ 0 }
+        ensures same_slices { SameSlices self.old self.new }
+    {
+        let Session {
+            desk,
+            line,
+            answers,
+        } = self;
+        let end = answers.fill + print::LONGEST;
+        let n = desk.serve(line.bytes(), &mut answers.room[answers.fill..end]);
+        answers.fill += n;
+        line.clear();
+    }
+
+    // The bytes of one piece.
+    fn feed(&mut self, piece: &[u8])
+        requires answers_fit { length piece.now * longest ≤ length self.old.answers.room.now }
+        ensures feeds { Feeds piece.now (progress_of self.old) (progress_of self.new) (told self.new) }
+        ensures same_slices { SameSlices self.old self.new }
+    {
+        self.answers.clear();
+        for &b in piece {
+            if b == b'\n' {
+                self.answer();
+            } else {
+                self.line.push(b);
+            }
+        }
+    }
+
+    // The end of the input: the last line, where it lacks its newline.
+    fn close(&mut self)
+        ensures closes { Closes (progress_of self.old) (progress_of self.new) (told self.new) }
+        ensures same_slices { SameSlices self.old self.new }
+    {
+        self.answers.clear();
+        if self.line.fill > 0 {
+            self.answer();
+        }
+    }
+
+    // What a read answered, and the bytes that it was lent: so many of them are a piece, 0 is the end of the input, and where the read failed nothing
+    // came.
+    pub fn take_in(&mut self, got: Option<usize>, chunk: &[u8])
+        requires answers_fit { length chunk.now * longest ≤ length self.old.answers.room.now }
+        ensures takes_in { TakesIn got chunk.now (progress_of self.old) (progress_of self.new) (told self.new) }
+        ensures same_slices { SameSlices self.old self.new }
+    {
+        match got {
+            None => self.answers.clear(),
+            Some(0) => self.close(),
+            Some(n) => self.feed(&chunk[..n.min(chunk.len())]),
+        }
+    }
 }

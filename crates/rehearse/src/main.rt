@@ -1,73 +1,51 @@
 // Rehearse: calls from standard input, one a line, performed on an area of 8,192 words, each answer a line. Assumes nothing.
 #![tactic(auto)]
 
-ghost use Rattle.std.specs.Prelude.{ℕ, ◌*◌, ◌≤◌, ◌<◌, length, take};
+ghost use Rattle.std.specs.Prelude.{◌*◌, ◌≤◌, length};
 ghost use Rattle.print.specs.Print.{longest};
-ghost use Rattle.lines.specs.Lines.{progress, TakesIn, Rehearsed};
+ghost use Rattle.lines.specs.Lines.{TakesIn, Rehearsed};
+ghost use Rattle.lines.specs.Session.{progress_of, told};
 
-use std::io::{Read, Stderr, Stdin, Stdout, Write};
+use lines::{Buffer, Session};
+use serve::Desk;
+use std::io::{Read, Write};
 
-// One read: what it brings is taken in, and what comes of it is written; a write that fails is let go. The answer is as C's read gives it: how many
-// bytes came, 0 at the end of the input, below 0 where the read failed.
-fn turn(
-    stdin: &mut Stdin,
-    stdout: &mut Stdout,
-    chunk: &mut [u8],
-    line: &mut [u8],
-    fill: &mut usize,
-    table: &mut [u16],
-    bytes: &mut [u8],
-    area: &mut [u16],
-    out: &mut [u8],
-) -> isize
-    requires in_bounds { 8192 < length line.old }
-    requires fill_in_bounds { fill.old ≤ length line.old }
-    requires in_bounds_2 { 8192 ≤ length table.old }
-    requires in_bounds_3 { 8192 ≤ length bytes.old }
-    requires longest_in_bounds { longest ≤ length out.old }
-    requires longest_in_bounds_2 { length chunk.old * longest ≤ length out.old }
-    ensures fill_in_bounds_2 { fill.new ≤ length line.old }
-    ensures by_index { (n : ℕ) × TakesIn result chunk.new (progress line.old fill.old area.old) (progress line.new fill.new area.new) (take n out.new) }
-{
-    let got = match stdin.read(chunk) {
-        Ok(n) => n as isize,
-        Err(_) => -1,
-    };
-    let n = lines::take_in(got, chunk, line, fill, table, bytes, area, out);
-    let _ = stdout.write_all(&out[..n]);
-    got
+// Room for what a read brings, and the session that takes it in.
+#[derive(Drop)]
+struct Player<'a> {
+    chunk: &'a mut [u8],
+    session: Session<'a>,
+    ghost answers_fit: { length chunk.now * longest ≤ length session.answers.room.now },
 }
 
-// Read after read, to the end of the input or to a read that fails, which is told.
-fn all(
-    stdin: &mut Stdin,
-    stdout: &mut Stdout,
-    stderr: &mut Stderr,
-    chunk: &mut [u8],
-    line: &mut [u8],
-    table: &mut [u16],
-    bytes: &mut [u8],
-    area: &mut [u16],
-    out: &mut [u8],
-)
-    requires in_bounds { 8192 < length line.old }
-    requires in_bounds_2 { 8192 ≤ length table.old }
-    requires in_bounds_3 { 8192 ≤ length bytes.old }
-    requires longest_in_bounds { longest ≤ length out.old }
-    requires longest_in_bounds_2 { length chunk.old * longest ≤ length out.old }
-    ensures { Rehearsed area.old area.new }
-{
-    let mut fill: usize = 0;
-    let mut got: isize = 1;
-    let mut turns = u64::MAX;
-    while turns > 0 && got > 0 {
-        got = turn(
-            stdin, stdout, chunk, line, &mut fill, table, bytes, area, out,
-        );
-        turns -= 1;
+impl Player<'_> {
+    // One read: what it brings is taken in, and what comes of it is written; a write that fails is let go. The answer is how many bytes came, 0 at the
+    // end of the input, or that the read failed.
+    fn turn<R: Read, W: Write>(&mut self, input: &mut R, output: &mut W) -> Option<usize>
+        ensures { TakesIn result self.new.chunk.now (progress_of self.old.session) (progress_of self.new.session) (told self.new.session) }
+    {
+        let chunk = &mut *self.chunk;
+        let got = input.read(chunk).ok();
+        self.session.take_in(got, chunk);
+        let _ = output.write_all(self.session.answers.bytes());
+        got
     }
-    if got < 0 {
-        let _ = stderr.write_all(b"rehearse: standard input cannot be read\n");
+
+    // Read after read, to the end of the input or to a read that fails, which is told.
+    fn all<R: Read, W: Write, E: Write>(&mut self, input: &mut R, output: &mut W, errors: &mut E)
+        ensures { Rehearsed self.old.session.desk.area.now self.new.session.desk.area.now }
+    {
+        self.session.begin();
+        for _ in 0..u64::MAX {
+            match self.turn(input, output) {
+                Some(0) => return,
+                Some(_) => {}
+                None => {
+                    let _ = errors.write_all(b"rehearse: standard input cannot be read\n");
+                    return;
+                }
+            }
+        }
     }
 }
 
@@ -82,20 +60,20 @@ const ROOM: usize = 8193;
 
 fn main(rt: HostRuntime) {
     let mut chunk = [0u8; PIECE];
-    let mut line = [0u8; ROOM];
+    let mut area = [0u16; 8192];
     let mut table = [0u16; 8192];
     let mut bytes = [0u8; 8192];
-    let mut area = [0u16; 8192];
-    let mut out = [0u8; ANSWERS];
-    all(
-        &mut rt.stdin(),
-        &mut rt.stdout(),
-        &mut rt.stderr(),
-        &mut chunk,
-        &mut line,
-        &mut table,
-        &mut bytes,
-        &mut area,
-        &mut out,
-    );
+    let mut line = [0u8; ROOM];
+    let mut answers = [0u8; ANSWERS];
+    let desk = Desk {
+        area: &mut area,
+        table: &mut table,
+        bytes: &mut bytes,
+    };
+    let session = Session::new(desk, &mut line, &mut answers);
+    let mut player = Player {
+        chunk: &mut chunk,
+        session,
+    };
+    player.all(&mut rt.stdin(), &mut rt.stdout(), &mut rt.stderr());
 }

@@ -1,1 +1,2 @@
 pub mod Serve
+pub mod Desk

@@ -4,37 +4,44 @@
 ghost use Rattle.std.specs.Prelude.{◌≤◌, length, take};
 ghost use Rattle.script.specs.Line.{meaning};
 ghost use Rattle.print.specs.Print.{longest};
-ghost use Rattle.serve.specs.Serve.{Serves};
 
 use script::Parsed;
 
-// One whole line: its call is performed, and its answer's line put at the front of `out`.
-pub fn serve(
-    line: &[u8],
-    table: &mut [u16],
-    bytes: &mut [u8],
-    area: &mut [u16],
-    out: &mut [u8],
-) -> usize
-    requires in_bounds { 8192 ≤ length table.old }
-    requires in_bounds_2 { 8192 ≤ length bytes.old }
-    requires longest_in_bounds { longest ≤ length out.old }
-    ensures upper_bound { result ≤ length out.old }
-    ensures serves { Serves (meaning line.now) area.old area.new (take result out.new) }
-{
-    match script::parse(line, table, bytes) {
-        Parsed::Call(call) => {
-            let answer = monitor::perform(area, call);
-            print::line(answer, out)
-        }
-        Parsed::Start(shape, count) => {
-            let answer = start::start(area, shape, &bytes[..count]);
-            print::line(answer, out)
-        }
-        Parsed::Nothing => {
-            out[0] = b'?';
-            out[1] = b'\n';
-            2
+// The area on which calls are performed, and room for what a line says: its numbers, and the bytes of Start.
+#[derive(Drop)]
+pub struct Desk<'a> {
+    pub area: &'a mut [u16],
+    pub table: &'a mut [u16],
+    pub bytes: &'a mut [u8],
+    pub ghost numbers_fit: { 8192 ≤ length table.now },
+    pub ghost bytes_fit: { 8192 ≤ length bytes.now },
+}
+
+impl Desk<'_> {
+    ghost use Rattle.serve.specs.Serve.{Serves};
+    ghost use Rattle.serve.specs.Desk.{SameDesk};
+
+    // One whole line: its call is performed, and its answer's line put at the front of `out`.
+    pub fn serve(&mut self, line: &[u8], out: &mut [u8]) -> usize
+        requires answer_fits { longest ≤ length out.old }
+        ensures within { result ≤ length out.old }
+        ensures serves { Serves (meaning line.now) self.old.area.now self.new.area.now (take result out.new) }
+        ensures same_desk { SameDesk self.old self.new }
+    {
+        match script::parse(line, self.table, self.bytes) {
+            Parsed::Call(call) => {
+                let answer = monitor::perform(self.area, call);
+                print::line(answer, out)
+            }
+            Parsed::Start(shape, count) => {
+                let answer = start::start(self.area, shape, &self.bytes[..count]);
+                print::line(answer, out)
+            }
+            Parsed::Nothing => {
+                out[0] = b'?';
+                out[1] = b'\n';
+                2
+            }
         }
     }
 }
