@@ -5,6 +5,7 @@ ghost use Rattle.std.specs.Prelude.{◌≤◌, length, take};
 ghost use Rattle.script.specs.Line.{meaning};
 ghost use Rattle.print.specs.Print.{longest};
 
+use outcomes::answers;
 use script::Parsed;
 
 // The area on which calls are performed, and room for what a line says: its numbers, and the bytes of Start.
@@ -34,8 +35,8 @@ impl Desk<'_> {
                 print::line(answer, out)
             }
             Parsed::Start(shape, count) => {
-                let answer = start::start(self.area, shape, &self.bytes[..count]);
-                print::line(answer, out)
+                let outcome = start::start(self.area, shape, &self.bytes[..count]);
+                print::line(answers::answer(outcome), out)
             }
             Parsed::Nothing => {
                 out[0] = b'?';

@@ -5,6 +5,7 @@ ghost use Rattle.std.specs.Prelude.{◌≡◌, true, ◌++◌, ◌≤◌, length
 ghost use Rattle.std.specs.Option.{unwrap_or};
 ghost use Rattle.model.specs.Queue.{inside};
 ghost use Rattle.model.specs.Machine.{State, model};
+ghost use Rattle.model.specs.Refusals.{report_in};
 ghost use Rattle.model.specs.Valid.{Valid};
 ghost use Rattle.model.specs.Timers.{left, nearest};
 ghost use Rattle.area.specs.Holds.{Holds};
@@ -12,7 +13,7 @@ ghost use Rattle.area.specs.Calls.{Stands};
 ghost use Rattle.timers.specs.Telling.{Shows, nonzero, due_ones, fewer, Tells, nearest_in};
 
 use area::places;
-use model::{Report, Shape, Ticks};
+use model::{Refusal, Shape, Ticks};
 use std::marker::Model;
 
 // What is answered to who is the nearest: the code, the process, its ticks left. No process where nobody is armed.
@@ -125,26 +126,23 @@ fn nearer(left: u32, nearest: Option<(u16, u32)>) -> bool
 }
 
 // Who is due within so many ticks, by ticks left and then by number, two words each into the buffer: process and ticks left.
-pub fn due(area: &[u16], shape: Shape, ticks: Ticks, buffer: &mut [u16]) -> Report
+pub fn due(area: &[u16], shape: Shape, ticks: Ticks, buffer: &mut [u16]) -> Result<u16, Refusal>
     requires { Stands shape area.now }
-    ensures { (s : State model) → Holds shape area.now s → Valid shape s → Tells ticks.0 shape s buffer.old buffer.new result }
+    ensures { (s : State model) → Holds shape area.now s → Valid shape s → Tells ticks.0 shape s buffer.old buffer.new (report_in result) }
 {
     let within = ticks.0;
     let clock = area::get(area, places::clock());
     let reading = Reading { area, shape, clock };
     let count = reading.count_due(within);
     if count == 0 {
-        return Report { code: 0, count: 0 };
+        return Ok(0);
     }
     if buffer.len() < 2 * count {
-        return Report { code: 5, count: 0 };
+        return Err(Refusal::Short);
     }
     reading.write_due(within, buffer);
     order::arrange(area, shape, clock, buffer, count);
-    Report {
-        code: 0,
-        count: count as u16,
-    }
+    Ok(count as u16)
 }
 
 // The process with the fewest ticks left, and of several the first by number.
