@@ -65,7 +65,7 @@ pub fn link_at(p: u16) -> usize
     requires { 1 ≤ p }
     ensures { result ≡ slot p }
 {
-    (p as usize - 1) * RECORD
+    (usize::from(p) - 1) * RECORD
 }
 
 // p's link, which holds both its priority and its next.
@@ -107,10 +107,7 @@ pub fn rings(records: &[u16], p: u16, time: u16) -> bool
     ensures { result ≡ rings records.now time p }
 {
     let at = link_at(p);
-    if records[at + TIMER] != time {
-        return false;
-    }
-    records[at + FLAGS] / ARMED % 2 == 1
+    records[at + TIMER] == time && records[at + FLAGS] / ARMED % 2 == 1
 }
 
 // ---- writers

@@ -1,3 +1,4 @@
+pub mod Parts
 pub mod Lasts
 pub mod Noted
 pub mod Sweeping

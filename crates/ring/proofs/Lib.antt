@@ -2,7 +2,7 @@ pub mod Lists
 pub mod Places
 pub mod Rings
 pub mod Walk
-pub mod Tour
+pub mod Way
 pub mod Moves
 pub mod Frame
 pub mod Examples

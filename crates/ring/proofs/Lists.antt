@@ -65,6 +65,10 @@ fresh_member q (x ∷ xs) f = member_other q x xs f.0 ∙ fresh_member q xs f.1
 pub member_fresh : (q : ℕ) (xs : List ℕ) → member q xs ≡ false → Fresh q xs
 member_fresh q xs h = all_members (λ x. x ≢ q) xs (λ x m. differ (λ (y : ℕ). member y xs) x q m h)
 
+pub member_mid : (p : ℕ) (us ys : List ℕ) → member p (us ++ p ∷ ys) ≡ true
+member_mid p [] ys = member_here p ys
+member_mid p (u ∷ us) ys = member_there p u (us ++ p ∷ ys) (member_mid p us ys)
+
 pub member_last : (x : ℕ) (xs : List ℕ) → member (last_of x xs) (x ∷ xs) ≡ true
 member_last x [] = member_here x []
 member_last x (y ∷ ys) = member_there (last_of y ys) x (y ∷ ys) (member_last y ys)
@@ -98,6 +102,10 @@ distinct_drop (x ∷ xs) y ys d = (all_drop (λ z. z ≢ x) xs y ys d.0, distinc
 pub distinct_insert : (xs : List ℕ) (y : ℕ) (ys : List ℕ) → Fresh y (xs ++ ys) → Distinct (xs ++ ys) → Distinct (xs ++ y ∷ ys)
 distinct_insert [] y ys f d = (f, d)
 distinct_insert (x ∷ xs) y ys f d = (all_insert (λ z. z ≢ x) xs y ys (flip f.0) d.0, distinct_insert xs y ys f.1 d.1)
+
+pub distinct_right : (xs ys : List ℕ) → Distinct (xs ++ ys) → Distinct ys
+distinct_right [] ys d = d
+distinct_right (x ∷ xs) ys d = distinct_right xs ys d.1
 
 -- the last, and all but the last
 pub rotated : (x : ℕ) (xs : List ℕ) → Distinct (x ∷ xs) → Distinct (last_of x xs ∷ init x xs)

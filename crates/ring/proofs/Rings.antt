@@ -8,7 +8,7 @@ use native.Mathlib.Decide.{ℕ_discrete}
 use native.Mathlib.Omega.{arith}
 use lib.Dec.{eqb}
 use lib.ListN.{length}
-use Rattle.model.specs.Queue.{bit, inside, member, count, first, All, take_while, ahead_of}
+use Rattle.model.specs.Queue.{bit, inside, member, count, All, take_while, ahead_of}
 use Rattle.model.proofs.Tests.{bounds_inside, denied}
 use Rattle.model.proofs.Lists.{all_left, all_right, absent_count, at_most, all_map, all_members, members_all}
 use Rattle.links.specs.Link.{Stands, next, point}
@@ -121,9 +121,10 @@ pub ring_ahead : {r : List ℕ} {tail : ℕ} (xs : List ℕ) → Ring r tail xs 
 ring_ahead [] R h = absurd (h (sym R.ends))
 ring_ahead {tail = tail} (x ∷ xs) R h = ahead_last tail x xs R.ends (R.once tail)
 
-pub ring_first : {r : List ℕ} {tail : ℕ} (xs : List ℕ) → Ring r tail xs → tail ≢ 0 → next r tail ≡ first xs
+-- the tail leads on to the first
+pub ring_first : {r : List ℕ} {tail : ℕ} (xs : List ℕ) → Ring r tail xs → tail ≢ 0 → (ys : List ℕ) × (xs ≡ next r tail ∷ ys)
 ring_first [] R h = absurd (h (sym R.ends))
-ring_first (x ∷ xs) R h = R.linked.0
+ring_first (x ∷ xs) R h = (xs, ap (λ (y : ℕ). y ∷ xs) (sym R.linked.0))
 
 -- ---- the sources of its links
 
@@ -190,6 +191,11 @@ cut r tail p xs ys R =
       p_ahead = g.0;
       p_behind = g.1;
     }
+
+-- no process is behind the tail
+pub last_alone : {r : List ℕ} {tail : ℕ} (us ys : List ℕ) → Ring r tail (us ++ tail ∷ ys) → ys ≡ []
+last_alone us [] R = refl
+last_alone {r} {tail} us (y ∷ ys) R = let C = cut r tail tail us (y ∷ ys) R in absurd (all_last (λ z. z ≢ tail) y ys C.p_behind.0 C.p_behind.1 C.last)
 
 -- ---- a ring has one reading
 

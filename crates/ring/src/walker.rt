@@ -1,38 +1,55 @@
-// A ring walker, which keeps the records and a place. Assumes nothing.
-ghost use Rattle.std.specs.Prelude.{◌≡◌, ◌≢◌, not, List, ◌++◌, ℕ, ◌+◌, ◌≤◌, ◌<◌, eqb, length, take, drop};
+// A ring walker, which keeps the records and a place, and gives the processes of a ring one by one. Assumes nothing.
+ghost use Rattle.std.specs.Prelude.{◌≡◌, ◌≢◌, not, List, [], ◌++◌, ℕ, ◌+◌, ◌≤◌, ◌<◌, eqb, length, take, drop};
+ghost use Rattle.std.specs.Iterator.{YieldsFirst, item_count};
 ghost use Rattle.links.specs.Link.{Stands, next};
 ghost use Rattle.ring.specs.Ring.{Ring};
+ghost use Rattle.ring.specs.Way.{to_come, Walks, Passed};
 
 use links::{link_of, next_of, points};
 
-// The records, and the process at which the walker stands.
+// The records, the tail of the ring, and the process at which the walker stands.
 #[derive(Clone, Copy)]
-struct Walker<'a> {
+pub struct Walker<'a> {
     records: &'a [u16],
+    tail: u16,
     at: u16,
 }
 
-// A walker at p.
-fn new<'a>(records: &'a [u16], p: u16) -> Walker<'a>
-    ensures { (result.records ≡ records.entry) × (result.at ≡ p) }
-{
-    Walker { records, at: p }
+impl<'a> Walker<'a> {
+    // A walker at the tail, before the first process.
+    pub fn new(records: &'a [u16], tail: u16) -> Self
+        ensures stands { (result.records ≡ records.entry) × (result.tail ≡ tail) × (result.at ≡ tail) }
+        ensures walks { (xs : List ℕ) → Ring records.entry.now tail xs → tail ≢ 0 → Walks result × Passed result tail [] xs }
+    {
+        Walker {
+            records,
+            tail,
+            at: tail,
+        }
+    }
 }
 
-// The walker one process on.
-fn step<'a>(w: Walker<'a>) -> Walker<'a>
-    requires { Stands w.records.now w.at }
-    ensures { (result.records ≡ w.entry.records) × (result.at ≡ next w.entry.records.now w.entry.at) }
-{
-    let at = next_of(w.records, w.at);
-    Walker {
-        records: w.records,
-        at,
+impl Iterator for Walker<'_> {
+    type Item = u16;
+
+    ghost can_next = { Walks };
+
+    ghost next_gives = { YieldsFirst to_come };
+
+    ghost remaining = { item_count to_come };
+
+    // One process on, unless the tail is next.
+    fn next(&mut self) -> Option<u16> {
+        if !goes_on(self.records, self.at, self.tail) {
+            return None;
+        }
+        self.at = next_of(self.records, self.at);
+        Some(self.at)
     }
 }
 
 // Whether another than the tail is behind p.
-pub fn goes_on(records: &[u16], p: u16, tail: u16) -> bool
+fn goes_on(records: &[u16], p: u16, tail: u16) -> bool
     requires { Stands records.now p × (tail < 1024) }
     ensures { result ≡ not (eqb (next records.now p) tail) }
 {
@@ -44,11 +61,9 @@ pub fn walk(records: &[u16], tail: u16, out: &mut [u16]) -> u16
     requires { (xs : List ℕ) × Ring records.now tail xs × (tail ≢ 0) × (length xs ≤ length out.old) }
     ensures { (xs : List ℕ) → Ring records.now tail xs → (result + 1 ≡ length xs) × (out.new ≡ take result xs ++ drop result out.old) }
 {
-    let mut w = new(records, tail);
     let mut count: u16 = 0;
-    while goes_on(w.records, w.at, tail) {
-        w = step(w);
-        out[count as usize] = w.at;
+    for p in Walker::new(records, tail) {
+        out[usize::from(count)] = p;
         count += 1;
     }
     count

@@ -2,7 +2,7 @@
 use Prim.Native.Nat.{ℕ, ◌+◌, ◌/◌, ◌%◌}
 use mathlib.Core.Path.{◌≡◌}
 use mathlib.Core.Logic.{◌≢◌}
-use mathlib.Core.Bool.{false, and-true, and-false}
+use mathlib.Core.Bool.{and-true, and-false}
 use mathlib.Core.List.{List}
 use lib.Dec.{eqb}
 use lib.ListN.{get_or}
@@ -12,7 +12,7 @@ use Rattle.links.proofs.rings.Goals as goal
 
 -- at is where p's link stands
 module _ (r : List ℕ) (time p at : ℕ) (here : at ≡ slot p) where
-  otherwise : get_or r (at + 2) 0 ≢ time → false ≡ rings r time p
+  otherwise : get_or r (at + 2) 0 ≢ time → eqb (get_or r (at + 2) 0) time ≡ rings r time p
   unfolding rings
   otherwise o = rw (← here, ne_eqb (get_or r (at + 2) 0) time o, and-false)
 
@@ -21,7 +21,7 @@ module _ (r : List ℕ) (time p at : ℕ) (here : at ≡ slot p) where
   then e = rw (← here, eq-eqb (get_or r (at + 2) 0) time e, and-true)
 
 pub returns-then-records-at : goal.returns-then-records-at
-returns-then-records-at c = otherwise _ _ _ _ c.link_at-at.ensures c.if-records-at.true
+returns-then-records-at c = then _ _ _ _ c.link_at-at.ensures c.if-records-at.true
 
-pub returns : goal.returns
-returns c = then _ _ _ _ c.link_at-at.ensures c.if-records-at.false
+pub returns-else-records-at : goal.returns-else-records-at
+returns-else-records-at c = otherwise _ _ _ _ c.link_at-at.ensures c.if-records-at.false
