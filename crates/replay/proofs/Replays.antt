@@ -1,17 +1,13 @@
 -- A log's calls, one after the other: how each return of the code meets the log's definitions, how a run grows at its end, the invariant of the
 -- loop, and demand 3 and turns on a log. Assumes nothing.
-use Prim.Native.Nat.{ℕ, suc, ◌+◌, ◌-◌, ◌*◌, ◌/◌, ◌<◌, ◌≤◌}
+use Prim.Native.Nat.{ℕ, suc, ◌+◌, ◌-◌, ◌*◌, ◌<◌, ◌≤◌}
 use native.Mathlib.Omega.{arith}
 use mathlib.Core.Path.{◌≡◌, refl, sym, ap, ◌∙◌, subst}
-use mathlib.Core.Logic.{◌≢◌}
 use mathlib.Core.Bool.{Bool, true, false, true≢false}
 use mathlib.Core.List.{List, [], ◌∷◌, ◌++◌, map, append-nil}
-use borrow.Author.Tests.{lt-ltb, le-ltb, ne_eqb}
-use lib.Dec.{eqb}
 use lib.ListN.{length, get_or, take, drop, set, length-append, length-drop}
-use lib.Seq.{take-append_seam, drop-cons, append_snoc, set-append_seam, get_or-drop, drop-drop}
+use lib.Seq.{take-append_seam, drop-cons, append_snoc, set-append_seam, drop-drop}
 use Rattle.model.specs.declared.Call.{Call}
-use Rattle.model.specs.declared.Call.TheVariants.{Enter, Exit, Wait, Notify, Broadcast, Naked, Requeue, SetPriority, Tick, Abort, SetAbortable, Reenter}
 use Rattle.model.specs.declared.Answer.{Answer}
 use Rattle.model.specs.Machine.{fields_of}
 use Rattle.monitor.specs.Calls.{Performs}
@@ -23,9 +19,9 @@ use Rattle.wire.proofs.Wire.{carries, read_answer}
 use Rattle.runs.proofs.History.{run_ends}
 use Rattle.runs.proofs.Turns.{all_turns}
 use Rattle.runs.proofs.Promises.{performs_fits}
-use Rattle.replay.specs.declared.Record.{Record}
-use Rattle.replay.specs.declared.Record.TheVariants.{Made, Malformed}
-use Rattle.replay.specs.Replay.{none2, none3, pick, made, operation, recorded, first_of, follow, logged, Served, Replayed, LogDemand3, LogTurns}
+use Rattle.std.specs.Prelude.{Option, Some, None}
+use Rattle.std.proofs.lemmas.Option.{none-some}
+use Rattle.replay.specs.Replay.{first_of, follow, logged, Served, Replayed, LogDemand3, LogTurns}
 
 -- ---- a run
 
@@ -65,106 +61,17 @@ stored rs a out k e h =
 
 -- ---- a record of the log
 
-pub first_short : (k : ℕ) (log : List ℕ) → length log / 4 ≤ k → Malformed ≡ first_of (drop (k * 4) log)
-unfolding first_of pick
-first_short k log h =
-    let l = length-drop (k * 4) log in
-    let s : length (drop (k * 4) log) < 4 = omega arith in
-    rw (lt-ltb _ _ s) refl
-
-pub first_whole : (k : ℕ) (log : List ℕ) → k < length log / 4
-    → recorded (get_or log (k * 4) 0) (get_or log (k * 4 + 1) 0) (get_or log (k * 4 + 2) 0) (get_or log (k * 4 + 3) 0) ≡ first_of (drop (k * 4) log)
-unfolding first_of pick
-first_whole k log h =
-    let l = length-drop (k * 4) log in
-    let s : 4 ≤ length (drop (k * 4) log) = omega arith in
-    let z : get_or (drop (k * 4) log) 0 0 ≡ get_or log (k * 4) 0 = get_or-drop (k * 4) log 0 0 ∙ ap (λ (j : ℕ). get_or log j 0) (omega arith) in
-    rw (le-ltb _ _ s, z, get_or-drop (k * 4) log 1 0, get_or-drop (k * 4) log 2 0, get_or-drop (k * 4) log 3 0) refl
-
--- the call of a record, or another
-abbrev call_of : Call → Record → Call
-call_of d (Made c) = c
-call_of d Malformed = d
-
-abbrev is_made : Record → Bool
-is_made (Made c) = true
-is_made Malformed = false
-
-made_apart : {x : Record} {c : Call} → x ≡ Made c → x ≡ Malformed → ⊥
-made_apart e f = true≢false (ap is_made (sym e ∙ f))
-
 -- a call was read, made and answered
-pub served : {x : Record} {c : Call} {old new out_old out_new : List ℕ} {k w : ℕ} {a : Answer}
-    → x ≡ Made c → Performs c old new a → w ≡ number_of a → out_new ≡ set out_old k w → Served x old new out_old out_new k true
+pub served : {x : Option Call} {c : Call} {old new out_old out_new : List ℕ} {k w : ℕ} {a : Answer}
+    → x ≡ Some c → Performs c old new a → w ≡ number_of a → out_new ≡ set out_old k w → Served x old new out_old out_new k true
 served {x} {c} {old} {new} {out_old} {out_new} {k} {w} {a} e P p s = record {
-  done = λ d f. (refl, (a, subst (λ (u : Call). Performs u old new a) (ap (call_of c) (sym e ∙ f)) P, s ∙ ap (λ (u : ℕ). set out_old k u) p));
-  not_done = λ f. absurd (made_apart e f);
+  done = λ d f. let q : c ≡ d = cc in (refl, (a, subst (λ (u : Call). Performs u old new a) q P, s ∙ ap (λ (u : ℕ). set out_old k u) p));
+  not_done = λ f. absurd (none-some c (sym f ∙ e));
 }
 
 -- a malformed record was read
-pub not_served : {x : Record} {old out : List ℕ} {k : ℕ} → x ≡ Malformed → Served x old old out out k false
-not_served e = record { done = λ d f. absurd (made_apart f e); not_done = λ f. (refl, refl, refl) }
-
--- ---- an operation
-
-module _ {k : ℕ} {r : Record} (a b c : ℕ) where
-  from : (j : ℕ) → k ≡ j → r ≡ operation j a b c → r ≡ operation k a b c
-  from j e h = subst (λ (i : ℕ). r ≡ operation i a b c) (sym e) h
-
-  pub op_wait : k ≡ 2 → r ≡ Made (Wait a b (record { 0 = c })) → r ≡ operation k a b c
-  unfolding operation pick
-  op_wait e h = from 2 e h
-
-  pub op_requeue : k ≡ 6 → r ≡ Made (Requeue a b (record { 0 = c })) → r ≡ operation k a b c
-  unfolding operation pick
-  op_requeue e h = from 6 e h
-
-  module _ {t : Bool} where
-    pub op_enter : k ≡ 0 → t ≡ none2 b c → r ≡ made t (Enter a) → r ≡ operation k a b c
-    unfolding operation pick
-    op_enter e n h = from 0 e (h ∙ ap (λ (u : Bool). made u (Enter a)) n)
-
-    pub op_exit : k ≡ 1 → t ≡ none2 b c → r ≡ made t (Exit a) → r ≡ operation k a b c
-    unfolding operation pick
-    op_exit e n h = from 1 e (h ∙ ap (λ (u : Bool). made u (Exit a)) n)
-
-    pub op_notify : k ≡ 3 → t ≡ none2 b c → r ≡ made t (Notify a) → r ≡ operation k a b c
-    unfolding operation pick
-    op_notify e n h = from 3 e (h ∙ ap (λ (u : Bool). made u (Notify a)) n)
-
-    pub op_broadcast : k ≡ 4 → t ≡ none2 b c → r ≡ made t (Broadcast a) → r ≡ operation k a b c
-    unfolding operation pick
-    op_broadcast e n h = from 4 e (h ∙ ap (λ (u : Bool). made u (Broadcast a)) n)
-
-    pub op_naked : k ≡ 5 → t ≡ none2 b c → r ≡ made t (Naked a) → r ≡ operation k a b c
-    unfolding operation pick
-    op_naked e n h = from 5 e (h ∙ ap (λ (u : Bool). made u (Naked a)) n)
-
-    pub op_priority : k ≡ 7 → t ≡ none2 b c → r ≡ made t (SetPriority (record { 0 = a })) → r ≡ operation k a b c
-    unfolding operation pick
-    op_priority e n h = from 7 e (h ∙ ap (λ (u : Bool). made u (SetPriority (record { 0 = a }))) n)
-
-    pub op_tick : k ≡ 8 → t ≡ none3 a b c → r ≡ made t Tick → r ≡ operation k a b c
-    unfolding operation pick
-    op_tick e n h = from 8 e (h ∙ ap (λ (u : Bool). made u Tick) n)
-
-    pub op_abort : k ≡ 9 → t ≡ none2 b c → r ≡ made t (Abort (record { 0 = a })) → r ≡ operation k a b c
-    unfolding operation pick
-    op_abort e n h = from 9 e (h ∙ ap (λ (u : Bool). made u (Abort (record { 0 = a }))) n)
-
-    pub op_set_abortable : k ≡ 10 → t ≡ eqb c 0 → r ≡ made t (SetAbortable a b) → r ≡ operation k a b c
-    unfolding operation pick
-    op_set_abortable e n h = from 10 e (h ∙ ap (λ (u : Bool). made u (SetAbortable a b)) n)
-
-    pub op_reenter : k ≡ 11 → t ≡ eqb c 0 → r ≡ made t (Reenter a b) → r ≡ operation k a b c
-    unfolding operation pick
-    op_reenter e n h = from 11 e (h ∙ ap (λ (u : Bool). made u (Reenter a b)) n)
-
--- none of the twelve
-pub op_none : {k : ℕ} (a b c : ℕ) → k ≢ 0 → k ≢ 1 → k ≢ 2 → k ≢ 3 → k ≢ 4 → k ≢ 5 → k ≢ 6 → k ≢ 7 → k ≢ 8 → k ≢ 9 → k ≢ 10 → k ≢ 11 → Malformed ≡ operation k a b c
-unfolding operation pick
-op_none {k} a b c h0 h1 h2 h3 h4 h5 h6 h7 h8 h9 h10 h11 =
-    rw (ne_eqb k 0 h0, ne_eqb k 1 h1, ne_eqb k 2 h2, ne_eqb k 3 h3, ne_eqb k 4 h4, ne_eqb k 5 h5, ne_eqb k 6 h6, ne_eqb k 7 h7, ne_eqb k 8 h8, ne_eqb k 9 h9, ne_eqb k 10 h10, ne_eqb k 11 h11) refl
+pub not_served : {x : Option Call} {old out : List ℕ} {k : ℕ} → x ≡ None → Served x old old out out k false
+not_served e = record { done = λ d f. absurd (none-some d (sym e ∙ f)); not_done = λ f. (refl, refl, refl) }
 
 -- ---- the loop
 
@@ -203,12 +110,14 @@ module _ {log old now out_old out_now : List ℕ} {k : ℕ} (D : Doing log old n
       }
 
   -- the room is full
-  pub doing_full : length out_now ≤ k → Replayed log old now out_old out_now k
+  pub doing_full : length out_now ≤ k → Replayed log old now out_old out_now (length out_now)
   unfolding logged
   doing_full h =
       let l = doing_long in
+      let r = D.room in
       let z : length out_old - k ≡ 0 = omega arith in
-      doing_all (ap (λ (j : ℕ). logged j (drop (k * 4) log)) z)
+      let e : k ≡ length out_now = omega arith in
+      subst (λ (j : ℕ). Replayed log old now out_old out_now j) e (doing_all (ap (λ (j : ℕ). logged j (drop (k * 4) log)) z))
 
   logged_next : k < length out_now → logged (length out_old - k) (drop (k * 4) log) ≡ follow (first_of (drop (k * 4) log)) (logged (length out_old - (k + 1)) (drop ((k + 1) * 4) log))
   unfolding logged
@@ -224,9 +133,9 @@ module _ {log old now out_old out_now : List ℕ} {k : ℕ} (D : Doing log old n
     pub doing_next : r ≡ true → Doing log old new out_old out_new (k + 1)
     doing_next t = go (first_of (drop (k * 4) log)) refl
       where
-        go : (x : Record) → first_of (drop (k * 4) log) ≡ x → Doing log old new out_old out_new (k + 1)
-        go Malformed e = absurd (true≢false (sym t ∙ (S.not_done e).0))
-        go (Made c) e =
+        go : (x : Option Call) → first_of (drop (k * 4) log) ≡ x → Doing log old new out_old out_new (k + 1)
+        go None e = absurd (true≢false (sym t ∙ (S.not_done e).0))
+        go (Some c) e =
             let d = (S.done c e).1 in
             let l = doing_long in
             let m = D.many in
@@ -236,7 +145,7 @@ module _ {log old now out_old out_now : List ℕ} {k : ℕ} (D : Doing log old n
               run = run_more D.run d.1;
               many = length-append D.answers (d.0 ∷ []) ∙ omega arith;
               room = omega arith;
-              rest = D.rest ∙ ap (λ (u : List Call). D.calls ++ u) (logged_next h ∙ ap (λ (x : Record). follow x (logged (length out_old - (k + 1)) (drop ((k + 1) * 4) log))) e)
+              rest = D.rest ∙ ap (λ (u : List Call). D.calls ++ u) (logged_next h ∙ ap (λ (x : Option Call). follow x (logged (length out_old - (k + 1)) (drop ((k + 1) * 4) log))) e)
                   ∙ sym (append_snoc D.calls c (logged (length out_old - (k + 1)) (drop ((k + 1) * 4) log)));
               written = d.2 ∙ ap (λ (u : List ℕ). set u k (number_of d.0)) D.written ∙ stored D.answers d.0 out_old k m (omega arith);
             }
@@ -245,13 +154,13 @@ module _ {log old now out_old out_now : List ℕ} {k : ℕ} (D : Doing log old n
     pub doing_stop : r ≡ false → Replayed log old new out_old out_new k
     doing_stop t = go (first_of (drop (k * 4) log)) refl
       where
-        go : (x : Record) → first_of (drop (k * 4) log) ≡ x → Replayed log old new out_old out_new k
-        go (Made c) e = absurd (true≢false (sym (S.done c e).0 ∙ t))
-        go Malformed e =
+        go : (x : Option Call) → first_of (drop (k * 4) log) ≡ x → Replayed log old new out_old out_new k
+        go (Some c) e = absurd (true≢false (sym (S.done c e).0 ∙ t))
+        go None e =
             let n = S.not_done e in
             subst (λ (u : List ℕ). Replayed log old u out_old out_new k) (sym n.1)
             (subst (λ (u : List ℕ). Replayed log old now out_old u k) (sym n.2)
-            (doing_all (logged_next h ∙ ap (λ (x : Record). follow x (logged (length out_old - (k + 1)) (drop ((k + 1) * 4) log))) e)))
+            (doing_all (logged_next h ∙ ap (λ (x : Option Call). follow x (logged (length out_old - (k + 1)) (drop ((k + 1) * 4) log))) e)))
 
 -- ---- demand 3
 

@@ -1,3 +1,2 @@
 pub mod Names
 pub mod Meanings
-pub mod Starts

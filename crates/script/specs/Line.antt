@@ -1,12 +1,12 @@
 -- Which lines are calls, and which call each is: a line is a list of bytes, without its newline. Assumes nothing.
-use Rattle.std.specs.Prelude.{ℕ, cond, List, [], ◌∷◌, map, leb, length}
+use Rattle.std.specs.Prelude.{ℕ, cond, List, [], ◌∷◌, Option, Some, None, map, leb, length}
 use Rattle.model.specs.Text.{bytes_of}
 use Rattle.model.specs.declared.Shape.{Shape}
 use Rattle.model.specs.declared.Call.{Call}
 use Rattle.model.specs.declared.Call.TheVariants as calls
 use Rattle.words.specs.Words.{fields, same, number, within}
 use Rattle.script.specs.declared.Name.{Name}
-use Rattle.script.specs.declared.Name.TheVariants.{Start, Enter, Exit, Wait, Notify, Broadcast, Naked, Requeue, SetPriority, Tick, Abort, SetAbortable, Reenter, Unknown}
+use Rattle.script.specs.declared.Name.TheVariants.{Start, Enter, Exit, Wait, Notify, Broadcast, Naked, Requeue, SetPriority, Tick, Abort, SetAbortable, Reenter}
 
 -- what a line is: one of the twelve calls, Start with its shape and its bytes, or neither
 pub data Meaning : Type 0 where
@@ -16,25 +16,32 @@ pub data Meaning : Type 0 where
 
 -- ---- names
 
--- the names in lower case; the later ones apart, as the code asks for them in a function of their own
-abbrev pub later_name : List ℕ → Name
-later_name w =
-    cond (same w (bytes_of "requeue")) Requeue
-    (cond (same w (bytes_of "setpriority")) SetPriority
-    (cond (same w (bytes_of "tick")) Tick
-    (cond (same w (bytes_of "abort")) Abort
-    (cond (same w (bytes_of "setabortable")) SetAbortable
-    (cond (same w (bytes_of "reenter")) Reenter Unknown)))))
+-- the words that are names, in lower case, each with its name
+abbrev pub names : List (List ℕ × Name)
+names =
+    (bytes_of "start", Start)
+    ∷ (bytes_of "enter", Enter)
+    ∷ (bytes_of "exit", Exit)
+    ∷ (bytes_of "wait", Wait)
+    ∷ (bytes_of "notify", Notify)
+    ∷ (bytes_of "broadcast", Broadcast)
+    ∷ (bytes_of "naked", Naked)
+    ∷ (bytes_of "requeue", Requeue)
+    ∷ (bytes_of "setpriority", SetPriority)
+    ∷ (bytes_of "tick", Tick)
+    ∷ (bytes_of "abort", Abort)
+    ∷ (bytes_of "setabortable", SetAbortable)
+    ∷ (bytes_of "reenter", Reenter)
+    ∷ []
 
-abbrev pub name_of : List ℕ → Name
-name_of w =
-    cond (same w (bytes_of "start")) Start
-    (cond (same w (bytes_of "enter")) Enter
-    (cond (same w (bytes_of "exit")) Exit
-    (cond (same w (bytes_of "wait")) Wait
-    (cond (same w (bytes_of "notify")) Notify
-    (cond (same w (bytes_of "broadcast")) Broadcast
-    (cond (same w (bytes_of "naked")) Naked (later_name w)))))))
+-- the name beside the first of these words that is w
+abbrev pub beside : List ℕ → List (List ℕ × Name) → Option Name
+beside w [] = None
+beside w ((t, n) ∷ rows) = cond (same w t) (Some n) (beside w rows)
+
+-- the name that a word is
+abbrev pub name_of : List ℕ → Option Name
+name_of w = beside w names
 
 -- ---- calls
 
@@ -84,12 +91,16 @@ said Tick ns = alone calls.Tick ns
 said Abort ns = one (λ p. calls.Abort (record { 0 = p })) ns
 said SetAbortable ns = two calls.SetAbortable ns
 said Reenter ns = two calls.Reenter ns
-said Unknown ns = none
+
+-- what a word says with its numbers: nothing where it is no name
+abbrev pub worded : Option Name → List ℕ → Meaning
+worded (Some n) ns = said n ns
+worded None ns = none
 
 -- the first word is the name, and the others are its numbers, each at most 65,535
 abbrev pub spoken : List (List ℕ) → Meaning
 spoken [] = none
-spoken (w ∷ ws) = cond (within 65535 (map number ws)) (said (name_of w) (map number ws)) none
+spoken (w ∷ ws) = cond (within 65535 (map number ws)) (worded (name_of w) (map number ws)) none
 
 -- a line of at most 8,192 bytes means what its words say
 abbrev pub meaning : List ℕ → Meaning

@@ -1,12 +1,11 @@
 // The lines of Rehearse: a line of bytes is cut at its spaces into a name and numbers, and these say the call. Assumes nothing.
 #![tactic(auto)]
 
-ghost use Rattle.std.specs.Prelude.{◌≡◌, ◌≤◌, ◌∷◌, [], length};
-ghost use Rattle.script.specs.Line.{later_name, name_of, started, said, meaning};
-ghost use Rattle.script.specs.Read.{Calls, Tells};
+ghost use Rattle.std.specs.Prelude.{◌≡◌, ◌≤◌, length, map};
+ghost use Rattle.script.specs.Line.{beside, name_of, said, meaning};
+ghost use Rattle.script.specs.Read.{Tells};
 
 use model::{Call, Priority, Process, Shape, Ticks};
-use words::Found;
 
 // The first word of a line.
 #[derive(Clone, Copy)]
@@ -24,190 +23,107 @@ pub enum Name {
     Abort,
     SetAbortable,
     Reenter,
-    Unknown,
 }
 
-// What a line is: a call; Start with its shape and the count of its bytes; or neither.
+// What a line says: a call, or Start with its shape and the count of its bytes.
 #[derive(Clone, Copy)]
-pub enum Parsed {
+pub enum Line {
     Call(Call),
     Start(Shape, usize),
-    Nothing,
 }
 
-// The name that a word is, of those from Requeue on.
-fn later_name(word: &[u8]) -> Name
-    ensures { result ≡ later_name word.now }
+// The words that are names, each with its name.
+const NAMES: [(&[u8], Name); 13] = [
+    (b"start", Name::Start),
+    (b"enter", Name::Enter),
+    (b"exit", Name::Exit),
+    (b"wait", Name::Wait),
+    (b"notify", Name::Notify),
+    (b"broadcast", Name::Broadcast),
+    (b"naked", Name::Naked),
+    (b"requeue", Name::Requeue),
+    (b"setpriority", Name::SetPriority),
+    (b"tick", Name::Tick),
+    (b"abort", Name::Abort),
+    (b"setabortable", Name::SetAbortable),
+    (b"reenter", Name::Reenter),
+];
+
+// The name beside the first of these words that is this one.
+fn name_beside(rows: &[(&[u8], Name)], word: &[u8]) -> Option<Name>
+    ensures { result ≡ beside word.now (map (λ r. (r.0.now, r.1)) rows.now) }
 {
-    if words::equal(word, b"requeue") {
-        return Name::Requeue;
+    for (text, name) in rows {
+        if words::equal(word, text) {
+            return Some(*name);
+        }
     }
-    if words::equal(word, b"setpriority") {
-        return Name::SetPriority;
-    }
-    if words::equal(word, b"tick") {
-        return Name::Tick;
-    }
-    if words::equal(word, b"abort") {
-        return Name::Abort;
-    }
-    if words::equal(word, b"setabortable") {
-        return Name::SetAbortable;
-    }
-    if words::equal(word, b"reenter") {
-        return Name::Reenter;
-    }
-    Name::Unknown
+    None
 }
 
 // The name that a word is.
-fn name_of(word: &[u8]) -> Name
+fn name_of(word: &[u8]) -> Option<Name>
     ensures { result ≡ name_of word.now }
 {
-    if words::equal(word, b"start") {
-        return Name::Start;
-    }
-    if words::equal(word, b"enter") {
-        return Name::Enter;
-    }
-    if words::equal(word, b"exit") {
-        return Name::Exit;
-    }
-    if words::equal(word, b"wait") {
-        return Name::Wait;
-    }
-    if words::equal(word, b"notify") {
-        return Name::Notify;
-    }
-    if words::equal(word, b"broadcast") {
-        return Name::Broadcast;
-    }
-    if words::equal(word, b"naked") {
-        return Name::Naked;
-    }
-    later_name(word)
+    name_beside(&NAMES, word)
 }
 
-// The call of a name without a number.
-fn call_of_none(name: Name) -> Parsed
-    ensures { Calls result (said name []) }
-{
-    match name {
-        Name::Tick => Parsed::Call(Call::Tick),
-        _ => Parsed::Nothing,
-    }
-}
-
-// The call of a name with one number.
-fn call_of_one(name: Name, x: u16) -> Parsed
-    ensures { Calls result (said name (x ∷ [])) }
-{
-    match name {
-        Name::Enter => Parsed::Call(Call::Enter { lock: x }),
-        Name::Exit => Parsed::Call(Call::Exit { lock: x }),
-        Name::Notify => Parsed::Call(Call::Notify { condition: x }),
-        Name::Broadcast => Parsed::Call(Call::Broadcast { condition: x }),
-        Name::Naked => Parsed::Call(Call::Naked { condition: x }),
-        Name::SetPriority => Parsed::Call(Call::SetPriority {
-            priority: Priority(x),
-        }),
-        Name::Abort => Parsed::Call(Call::Abort {
-            process: Process(x),
-        }),
-        _ => Parsed::Nothing,
-    }
-}
-
-// The call of a name with two numbers.
-fn call_of_two(name: Name, x: u16, y: u16) -> Parsed
-    ensures { Calls result (said name (x ∷ y ∷ [])) }
-{
-    match name {
-        Name::SetAbortable => Parsed::Call(Call::SetAbortable {
-            condition: x,
-            value: y,
-        }),
-        Name::Reenter => Parsed::Call(Call::Reenter {
-            lock: x,
-            condition: y,
-        }),
-        _ => Parsed::Nothing,
-    }
-}
-
-// The call of a name with three numbers.
-fn call_of_three(name: Name, x: u16, y: u16, z: u16) -> Parsed
-    ensures { Calls result (said name (x ∷ y ∷ z ∷ [])) }
-{
-    match name {
-        Name::Wait => Parsed::Call(Call::Wait {
-            lock: x,
-            condition: y,
-            ticks: Ticks(z),
-        }),
-        Name::Requeue => Parsed::Call(Call::Requeue {
-            source: x,
-            destination: y,
-            process: Process(z),
-        }),
-        _ => Parsed::Nothing,
-    }
-}
-
-// Start, with its four numbers and its bytes.
-fn start_of(numbers: &[u16], bytes: &mut [u8]) -> Parsed
-    requires in_bounds { 4 ≤ length numbers.now }
-    requires numbers_in_bounds { length numbers.now ≤ length bytes.old }
-    ensures { Tells result bytes.new (started numbers.now) }
-{
-    if words::put_bytes(&numbers[4..], bytes) {
-        let shape = Shape {
-            processes: numbers[0],
-            locks: numbers[1],
-            conditions: numbers[2],
-            parks: numbers[3],
-        };
-        return Parsed::Start(shape, numbers.len() - 4);
-    }
-    Parsed::Nothing
-}
-
-// What a name says with its numbers.
-fn call_of(name: Name, numbers: &[u16], bytes: &mut [u8]) -> Parsed
+// What a name says with its numbers. Start's bytes come to the front of `bytes`.
+#[tactic(auto, using(crate::proofs::Names::miscounted))]
+fn line_of(name: Name, numbers: &[u16], bytes: &mut [u8]) -> Option<Line>
     requires { length numbers.now ≤ length bytes.old }
     ensures { Tells result bytes.new (said name numbers.now) }
 {
-    if numbers.len() == 0 {
-        return call_of_none(name);
-    }
-    if numbers.len() == 1 {
-        return call_of_one(name, numbers[0]);
-    }
-    if numbers.len() == 2 {
-        return call_of_two(name, numbers[0], numbers[1]);
-    }
-    if numbers.len() == 3 {
-        return call_of_three(name, numbers[0], numbers[1], numbers[2]);
-    }
-    match name {
-        Name::Start => start_of(numbers, bytes),
-        _ => Parsed::Nothing,
-    }
+    let call = match (name, numbers) {
+        (Name::Start, &[processes, locks, conditions, parks, ref rest @ ..]) => {
+            let shape = Shape {
+                processes,
+                locks,
+                conditions,
+                parks,
+            };
+            return words::put_bytes(rest, bytes).then_some(Line::Start(shape, rest.len()));
+        }
+        (Name::Enter, &[lock]) => Call::Enter { lock },
+        (Name::Exit, &[lock]) => Call::Exit { lock },
+        (Name::Wait, &[lock, condition, ticks]) => Call::Wait {
+            lock,
+            condition,
+            ticks: Ticks(ticks),
+        },
+        (Name::Notify, &[condition]) => Call::Notify { condition },
+        (Name::Broadcast, &[condition]) => Call::Broadcast { condition },
+        (Name::Naked, &[condition]) => Call::Naked { condition },
+        (Name::Requeue, &[source, destination, process]) => Call::Requeue {
+            source,
+            destination,
+            process: Process(process),
+        },
+        (Name::SetPriority, &[priority]) => Call::SetPriority {
+            priority: Priority(priority),
+        },
+        (Name::Tick, &[]) => Call::Tick,
+        (Name::Abort, &[process]) => Call::Abort {
+            process: Process(process),
+        },
+        (Name::SetAbortable, &[condition, value]) => Call::SetAbortable { condition, value },
+        (Name::Reenter, &[lock, condition]) => Call::Reenter { lock, condition },
+        _ => return None,
+    };
+    Some(Line::Call(call))
 }
 
-// What a line of any bytes is. The table has room for its numbers; Start's bytes come to the front of `bytes`.
-pub fn parse(line: &[u8], table: &mut [u16], bytes: &mut [u8]) -> Parsed
+// What a line of any bytes says, if anything. The table has room for its numbers; Start's bytes come to the front of `bytes`.
+pub fn parse(line: &[u8], table: &mut [u16], bytes: &mut [u8]) -> Option<Line>
     requires in_bounds { 8192 ≤ length table.old }
     requires in_bounds_2 { 8192 ≤ length bytes.old }
     ensures { Tells result bytes.new (meaning line.now) }
 {
     if line.len() > 8192 {
-        return Parsed::Nothing;
+        return None;
     }
     let end = words::word_end(line, 0);
-    let name = name_of(&line[..end]);
-    match words::numbers(line, end, table) {
-        Found::Numbers(n) => call_of(name, &table[..n], bytes),
-        Found::Nothing => Parsed::Nothing,
-    }
+    let name = name_of(&line[..end])?;
+    let count = words::numbers(line, end, table)?;
+    line_of(name, &table[..count], bytes)
 }

@@ -1,12 +1,6 @@
 -- What the functions that read words and numbers promise. Assumes nothing.
-use Rattle.std.specs.Prelude.{ℕ, ◌≤◌, ◌≡◌, Bool, true, false, cond, List, [], ◌∷◌, map, eqb, leb, length, take}
-use Rattle.words.specs.declared.Found.{Found}
-use Rattle.words.specs.declared.Found.TheVariants.{Numbers, Nothing}
+use Rattle.std.specs.Prelude.{ℕ, ◌≤◌, ◌≡◌, Bool, true, false, cond, List, [], ◌∷◌, Option, Some, None, map, eqb, length, take}
 use Rattle.words.specs.Words.{fields, number, within}
-
--- a number, or 65,536 where it is above
-abbrev pub clipped : ℕ → ℕ
-clipped n = cond (leb n 65536) n 65536
 
 -- the bytes before the first space
 abbrev pub word : List ℕ → List ℕ
@@ -18,10 +12,10 @@ abbrev pub after : List ℕ → List ℕ
 after [] = []
 after (b ∷ bs) = map number (fields bs)
 
--- these numbers stand at the front of the table; or one of them is above 65,535
-abbrev pub Reads : Found → List ℕ → List ℕ → Type 0
-Reads (Numbers n) table ns = (n ≤ 8192) × ((take n table ≡ ns) × (within 65535 ns ≡ true))
-Reads Nothing table ns = within 65535 ns ≡ false
+-- these numbers, so many, stand at the front of the table; or one of them is above 65,535
+abbrev pub Reads : Option ℕ → List ℕ → List ℕ → Type 0
+Reads (Some n) table ns = (n ≤ 8192) × ((take n table ≡ ns) × (within 65535 ns ≡ true))
+Reads None table ns = within 65535 ns ≡ false
 
 -- each of these numbers is a byte, and they stand at the front of the buffer; or one of them is above 255
 abbrev pub Bytes : Bool → List ℕ → List ℕ → Type 0

@@ -1,15 +1,17 @@
 // The words and numbers of a line of bytes: where a word ends, whether two are the same, what number one is. Assumes nothing.
 #![tactic(auto)]
 
-ghost use Rattle.std.specs.Prelude.{◌≡◌, ◌+◌, ◌*◌, ◌≤◌, length, drop};
+ghost use Rattle.std.specs.Prelude.{◌≡◌, ◌+◌, ◌<◌, ◌≤◌, ◌==◌, MatchOption, length, drop};
+ghost use Rattle.std.specs.List.{position_or_len};
 ghost use Rattle.words.specs.Words.{number, same};
-ghost use Rattle.words.specs.Read.{clipped, word, after, Reads, Bytes};
+ghost use Rattle.words.specs.Read.{word, after, Reads, Bytes};
 
-// What the words after the first are: so many numbers, or not all of them numbers.
-#[derive(Drop)]
-pub enum Found {
-    Numbers(usize),
-    Nothing,
+// How many of these bytes stand before the first space.
+fn until_space(bytes: &[u8]) -> usize
+    ensures value { result ≡ position_or_len (λ b. b == 32) bytes.now }
+    ensures upper_bound { result ≤ length bytes.now }
+{
+    bytes.iter().take_while(|b| **b != b' ').count()
 }
 
 // Where the word that begins at `from` ends: at a space, or at the line's end.
@@ -18,67 +20,37 @@ pub fn word_end(line: &[u8], from: usize) -> usize
     ensures value { result ≡ from + length (word (drop from line.now)) }
     ensures upper_bound { result ≤ length line.now }
 {
-    let mut at = from;
-    while at < line.len() {
-        if line[at] == b' ' {
-            return at;
-        }
-        at += 1;
-    }
-    at
+    from + until_space(&line[from..])
 }
 
-// One digit more. A number above 65,535 stays one, and so does what is no number.
-fn grown(value: u32, digit: u8) -> u32
-    requires { value ≤ 65536 }
-    ensures { result ≡ clipped (value * 10 + digit) }
+// The value of a word, where it is a number of at most 65,535.
+#[tactic(auto, using(crate::proofs::Values::value_over))]
+fn value(word: &[u8]) -> Option<u16>
+    ensures { MatchOption result (65535 < number word.now) (λ n. n ≡ number word.now) }
 {
-    let more = value * 10 + (digit as u32);
-    if more < 65536 { more } else { 65536 }
-}
-
-// The value of a word, or 65,536 where it is no number or one above 65,535.
-fn value(word: &[u8]) -> u32
-    ensures { result ≡ clipped (number word.now) }
-{
-    if word.len() == 0 {
-        return 65536;
+    if word.is_empty() {
+        return None;
     }
-    let mut sum: u32 = 0;
-    let mut at = 0;
-    while at < word.len() {
-        let b = word[at];
-        if b < b'0' {
-            return 65536;
+    let mut sum: u16 = 0;
+    for b in word {
+        if !b.is_ascii_digit() {
+            return None;
         }
-        if b > b'9' {
-            return 65536;
-        }
-        sum = grown(sum, b - b'0');
-        at += 1;
+        sum = sum.checked_mul(10)?.checked_add(u16::from(*b - b'0'))?;
     }
-    sum
+    Some(sum)
 }
 
 // Whether two rows of bytes are the same.
 pub fn equal(a: &[u8], b: &[u8]) -> bool
     ensures { result ≡ same a.now b.now }
 {
-    if a.len() != b.len() {
-        return false;
-    }
-    let mut at = 0;
-    while at < a.len() {
-        if a[at] != b[at] {
-            return false;
-        }
-        at += 1;
-    }
-    true
+    a == b
 }
 
-// The numbers after the word that ends at `from`, put into `table`.
-pub fn numbers(line: &[u8], from: usize, table: &mut [u16]) -> Found
+// The numbers after the word that ends at `from`, put into `table`: how many they are, where each is one.
+#[tactic(auto, using(crate::proofs::After::after_on, crate::proofs::After::put_on))]
+pub fn numbers(line: &[u8], from: usize, table: &mut [u16]) -> Option<usize>
     requires from_in_bounds { from ≤ length line.now }
     requires line_len_bound { length line.now ≤ 8192 }
     requires in_bounds { 8192 ≤ length table.old }
@@ -89,15 +61,11 @@ pub fn numbers(line: &[u8], from: usize, table: &mut [u16]) -> Found
     while at < line.len() {
         let start = at + 1;
         let end = word_end(line, start);
-        let n = value(&line[start..end]);
-        if n > 65535 {
-            return Found::Nothing;
-        }
-        table[count] = n as u16;
+        table[count] = value(&line[start..end])?;
         count += 1;
         at = end;
     }
-    Found::Numbers(count)
+    Some(count)
 }
 
 // Whether each of these numbers is a byte; they are put at the front of `bytes`.
@@ -105,14 +73,11 @@ pub fn put_bytes(numbers: &[u16], bytes: &mut [u8]) -> bool
     requires { length numbers.now ≤ length bytes.old }
     ensures { Bytes result numbers.now bytes.new }
 {
-    let mut at = 0;
-    while at < numbers.len() {
-        let n = numbers[at];
-        if n > 255 {
+    for (i, n) in numbers.iter().enumerate() {
+        let Ok(byte) = u8::try_from(*n) else {
             return false;
-        }
-        bytes[at] = n as u8;
-        at += 1;
+        };
+        bytes[i] = byte;
     }
     true
 }

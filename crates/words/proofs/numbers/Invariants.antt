@@ -8,7 +8,7 @@ use Rattle.words.specs.Read.{after}
 use Rattle.words.proofs.numbers.Given as goal
 
 abbrev pub invariant-loop-at : goal.invariant-loop-at
-invariant-loop-at l = (l.at ≤ length l.line) × ((l.count ≤ l.at) × ((length l.table ≡ length l.initial.table) × ((after (drop l.from l.line) ≡ take l.count l.table ++ after (drop l.at l.line)) × (within 65535 (after (drop l.from l.line)) ≡ within 65535 (after (drop l.at l.line))))))
+invariant-loop-at l = record { here : l.at ≤ length l.line; room : l.count ≤ l.at; stands : after (drop l.from l.line) ≡ take l.count l.table ++ after (drop l.at l.line); within : within 65535 (after (drop l.from l.line)) ≡ within 65535 (after (drop l.at l.line)) }
 
 abbrev pub decreases-loop-at : goal.decreases-loop-at
 decreases-loop-at l = length l.line - l.at

@@ -1,12 +1,8 @@
--- The numbers before `at` are bytes and stand in the buffer; the measure is what is left of them. Assumes nothing.
-use Prim.Native.Nat.{◌-◌, ◌≤◌}
+-- The numbers before `i` are bytes and stand in the buffer. Assumes nothing.
 use mathlib.Core.Path.{◌≡◌}
-use lib.ListN.{length, take, drop}
+use lib.ListN.{take, drop}
 use Rattle.words.specs.Words.{within}
 use Rattle.words.proofs.put_bytes.Given as goal
 
-abbrev pub invariant-loop-at : goal.invariant-loop-at
-invariant-loop-at l = (l.at ≤ length l.numbers) × ((length l.bytes ≡ length l.initial.bytes) × ((take l.at l.bytes ≡ take l.at l.numbers) × (within 255 l.numbers ≡ within 255 (drop l.at l.numbers))))
-
-abbrev pub decreases-loop-at : goal.decreases-loop-at
-decreases-loop-at l = length l.numbers - l.at
+abbrev pub invariant-loop-i : goal.invariant-loop-i
+invariant-loop-i l = record { copied : take l.i l.bytes ≡ take l.i l.numbers; within : within 255 l.numbers ≡ within 255 (drop l.i l.numbers) }
