@@ -6,7 +6,7 @@ ghost use Rattle.script.specs.Line.{meaning};
 ghost use Rattle.print.specs.Print.{longest};
 
 use outcomes::answers;
-use script::Parsed;
+use script::Line;
 
 // The area on which calls are performed, and room for what a line says: its numbers, and the bytes of Start.
 #[derive(Drop)]
@@ -30,15 +30,15 @@ impl Desk<'_> {
         ensures same_desk { SameDesk self.old self.new }
     {
         match script::parse(line, self.table, self.bytes) {
-            Parsed::Call(call) => {
+            Some(Line::Call(call)) => {
                 let answer = monitor::perform(self.area, call);
                 print::line(answer, out)
             }
-            Parsed::Start(shape, count) => {
+            Some(Line::Start(shape, count)) => {
                 let outcome = start::start(self.area, shape, &self.bytes[..count]);
                 print::line(answers::answer(outcome), out)
             }
-            Parsed::Nothing => {
+            None => {
                 out[0] = b'?';
                 out[1] = b'\n';
                 2

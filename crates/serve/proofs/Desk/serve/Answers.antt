@@ -3,5 +3,5 @@ use Rattle.std.proofs.Common.{refl}
 use Rattle.serve.proofs.Question.{question}
 use Rattle.serve.proofs.Desk.serve.Goals as goal
 
-pub returns-in-Nothing-clause-serves : goal.returns-in-Nothing-clause-serves
-returns-in-Nothing-clause-serves c = rw c.in-Nothing.ensures (refl, question _ c.requires.answer_fits)
+pub returns-in-None-clause-serves : goal.returns-in-None-clause-serves
+returns-in-None-clause-serves c = rw c.in-None.ensures (refl, question _ c.requires.answer_fits)
