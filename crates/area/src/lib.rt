@@ -137,7 +137,7 @@ pub fn running_of(area: &[u16]) -> u16
 // Who holds the lock, 0 for nobody.
 pub fn holder_of(area: &[u16], shape: Shape, l: u16) -> u16
     requires held { Held shape area.now }
-    requires l_value { inside shape.locks l ≡ true }
+    requires is_lock { inside shape.locks l ≡ true }
     ensures { (s : State model) → Holds shape area.now s → result ≡ s.fields (holder l) }
 {
     let at = lock_at(shape, l) + layout::HOLDER;
@@ -156,7 +156,7 @@ pub fn get(area: &[u16], place: Place) -> u16
 // Whether p waits.
 pub fn waits(area: &[u16], shape: Shape, p: u16) -> bool
     requires held { Held shape area.now }
-    requires p_value { inside shape.processes p ≡ true }
+    requires is_process { inside shape.processes p ≡ true }
     ensures { (s : State model) → Holds shape area.now s → result ≡ machine.waiting shape s.queues p }
 {
     let at = record_at(shape, p) + links::FLAGS;
@@ -191,8 +191,8 @@ pub fn bit_of(v: u16) -> u16
 // The lock's holder, and with it its locked bit.
 pub fn set_holder(area: &mut [u16], shape: Shape, l: u16, p: u16)
     requires held { Held shape area.old }
-    requires l_value { inside shape.locks l ≡ true }
-    requires p_le_processes { p ≤ shape.processes }
+    requires is_lock { inside shape.locks l ≡ true }
+    requires is_process_or_none { p ≤ shape.processes }
     ensures { (s : State model) → Holds shape area.old s → Becomes shape area.old area.new (with (holder l) p s) }
 {
     store(area, places::locked(shape, l), bit_of(p));
@@ -211,8 +211,8 @@ pub fn set_running(area: &mut [u16], p: u16)
 
 // p's priority.
 pub fn set_rank(records: &mut [u16], p: u16, v: u16)
-    requires by_index { (n : Shape) × (front : List ℕ) × (t : Parts) × (length front ≡ records_at n) × Image n (front ++ records.old) t × (inside n.processes p ≡ true) }
-    requires v_bound { v < 8 }
+    requires image { (n : Shape) × (front : List ℕ) × (t : Parts) × (length front ≡ records_at n) × Image n (front ++ records.old) t × (inside n.processes p ≡ true) }
+    requires fits { v < 8 }
     ensures { (n : Shape) (front : List ℕ) (t : Parts) → length front ≡ records_at n → Image n (front ++ records.old) t → inside n.processes p ≡ true → Stored n (front ++ records.old) (front ++ records.new) (alter (kept (priority p)) v t) }
 {
     let at = (usize::from(p) - 1) * RECORD;
@@ -222,8 +222,8 @@ pub fn set_rank(records: &mut [u16], p: u16, v: u16)
 
 // One bit of p's flags, by how much it counts there.
 fn set_flag(records: &mut [u16], p: u16, unit: u16, value: u16)
-    requires by_index { (n : Shape) × (front : List ℕ) × (t : Parts) × (f : Part) × (length front ≡ records_at n) × Image n (front ++ records.old) t × (inside n.processes p ≡ true) × Flag p f unit }
-    requires value_bound { value < 2 }
+    requires image { (n : Shape) × (front : List ℕ) × (t : Parts) × (f : Part) × (length front ≡ records_at n) × Image n (front ++ records.old) t × (inside n.processes p ≡ true) × Flag p f unit }
+    requires is_bit { value < 2 }
     ensures { (n : Shape) (front : List ℕ) (t : Parts) (f : Part) → length front ≡ records_at n → Image n (front ++ records.old) t → inside n.processes p ≡ true → Flag p f unit → Stored n (front ++ records.old) (front ++ records.new) (alter f value t) }
 {
     let at = (usize::from(p) - 1) * RECORD + links::FLAGS;
@@ -233,8 +233,8 @@ fn set_flag(records: &mut [u16], p: u16, unit: u16, value: u16)
 
 // p's waiting bit, which goes with a move.
 pub fn set_waiting(records: &mut [u16], p: u16, waits: u16)
-    requires by_index { (n : Shape) × (front : List ℕ) × (t : Parts) × (length front ≡ records_at n) × Image n (front ++ records.old) t × (inside n.processes p ≡ true) }
-    requires waits_bound { waits < 2 }
+    requires image { (n : Shape) × (front : List ℕ) × (t : Parts) × (length front ≡ records_at n) × Image n (front ++ records.old) t × (inside n.processes p ≡ true) }
+    requires is_bit { waits < 2 }
     ensures { (n : Shape) (front : List ℕ) (t : Parts) → length front ≡ records_at n → Image n (front ++ records.old) t → inside n.processes p ≡ true → Stored n (front ++ records.old) (front ++ records.new) (alter (waiting p) waits t) }
 {
     set_flag(records, p, layout::WAITING, waits);

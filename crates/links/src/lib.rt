@@ -123,7 +123,7 @@ pub fn with_next(word: u16, n: u16) -> u16
 // n is now behind p.
 pub fn set_next(records: &mut [u16], p: u16, n: u16)
     requires stands { Stands records.old p }
-    requires n_bound { n < 1024 }
+    requires is_number { n < 1024 }
     ensures { records.new ≡ point records.old p n }
 {
     let at = link_at(p);
@@ -134,7 +134,7 @@ pub fn set_next(records: &mut [u16], p: u16, n: u16)
 // p's link is this priority and this next alone.
 pub fn set_link(records: &mut [u16], p: u16, v: u16, n: u16)
     requires stands { Stands records.old p }
-    requires v_bound { (v < 8) × (n < 1024) }
+    requires fits { (v < 8) × (n < 1024) }
     ensures { records.new ≡ set records.old (slot p) (v * 8192 + n * 8) }
 {
     let at = link_at(p);
@@ -144,7 +144,7 @@ pub fn set_link(records: &mut [u16], p: u16, v: u16, n: u16)
 // p is now behind q, and before whoever was behind q.
 pub fn follow(records: &mut [u16], q: u16, p: u16)
     requires stands { Stands records.old q }
-    requires stands_2 { Stands records.old p }
+    requires newcomer_stands { Stands records.old p }
     ensures { records.new ≡ wedge records.old q p }
 {
     let link = link_of(records, q);

@@ -18,8 +18,8 @@ use outcomes::{answers, codes};
 // Whether p is called off the condition: its abort is set, and the condition is abortable.
 pub fn called_off(area: &[u16], shape: Shape, p: u16, condition: u16) -> bool
     requires held { Held shape area.now }
-    requires p_value { inside shape.processes p ≡ true }
-    requires condition_value { inside shape.conditions condition ≡ true }
+    requires is_process { inside shape.processes p ≡ true }
+    requires is_condition { inside shape.conditions condition ≡ true }
     ensures { (s : State model) → Holds shape area.now s → result ≡ some (s.fields (abort p)) && some (s.fields (abortable condition)) }
 {
     area::get(area, places::abort(shape, p)) != 0

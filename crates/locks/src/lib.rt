@@ -23,7 +23,7 @@ pub mod again;
 // Unlocks, and the first of the lock's queue, if it has one, moves to ready. The answer is how many moved.
 pub fn release(area: &mut [u16], shape: Shape, lock: u16) -> u16
     requires held { Held shape area.old }
-    requires lock_value { inside shape.locks lock ≡ true }
+    requires is_lock { inside shape.locks lock ≡ true }
     ensures { (s : State model) → Holds shape area.old s → (result ≡ length (first_only (s.queues (Queue.lock lock)))) × Becomes shape area.old area.new (changed (put (holder lock) 0 s.fields) (released s.queues lock) s) }
 {
     let from = area::lock_at(shape, lock);
@@ -41,7 +41,7 @@ pub fn release(area: &mut [u16], shape: Shape, lock: u16) -> u16
 // The running process p becomes failed and moves to the lock. How many are ahead of it there.
 fn block(area: &mut [u16], shape: Shape, lock: u16, p: u16) -> u16
     requires holds { (s : State model) × Holds shape area.old s × (member p (s.queues ready) ≡ true) }
-    requires lock_value { inside shape.locks lock ≡ true }
+    requires is_lock { inside shape.locks lock ≡ true }
     ensures { (s : State model) → Holds shape area.old s → member p (s.queues ready) ≡ true → (result ≡ length (ahead_of p ((changed (put (failed p) 1 s.fields) ((p, Queue.lock lock) ∷ []) s).queues (Queue.lock lock)))) × Becomes shape area.old area.new (changed (put (failed p) 1 s.fields) ((p, Queue.lock lock) ∷ []) s) }
 {
     area::put(area, places::failed(shape, p), 1);

@@ -42,7 +42,7 @@ pub fn queue_at(shape: Shape, kind: u16, number: u16) -> Option<usize>
 // The ring of the queue whose tail stands at i: the records, and its last.
 fn ring_at(area: &[u16], shape: Shape, i: usize) -> (&[u16], u16)
     requires held { Held shape area.now }
-    requires q_value { (q : Queue) × (exists shape q ≡ true) × (i ≡ at shape (Tail q)) }
+    requires is_queue { (q : Queue) × (exists shape q ≡ true) × (i ≡ at shape (Tail q)) }
     ensures { (s : State model) (q : Queue) → Holds shape area.now s → exists shape q ≡ true → i ≡ at shape (Tail q) → Ring result.0.now result.1 (s.queues q) }
 {
     let at = area::records_at(shape);
@@ -52,7 +52,7 @@ fn ring_at(area: &[u16], shape: Shape, i: usize) -> (&[u16], u16)
 // The first of the queue whose tail stands at i, 0 if it is empty.
 pub fn first_in(area: &[u16], shape: Shape, i: usize) -> u16
     requires held { Held shape area.now }
-    requires q_value { (q : Queue) × (exists shape q ≡ true) × (i ≡ at shape (Tail q)) }
+    requires is_queue { (q : Queue) × (exists shape q ≡ true) × (i ≡ at shape (Tail q)) }
     ensures { (s : State model) (q : Queue) → Holds shape area.now s → exists shape q ≡ true → i ≡ at shape (Tail q) → result ≡ first (s.queues q) }
 {
     let (records, tail) = ring_at(area, shape, i);
@@ -62,7 +62,7 @@ pub fn first_in(area: &[u16], shape: Shape, i: usize) -> u16
 // The last of the queue whose tail stands at i, 0 if it is empty.
 pub fn last_in(area: &[u16], shape: Shape, i: usize) -> u16
     requires held { Held shape area.now }
-    requires q_value { (q : Queue) × (exists shape q ≡ true) × (i ≡ at shape (Tail q)) }
+    requires is_queue { (q : Queue) × (exists shape q ≡ true) × (i ≡ at shape (Tail q)) }
     ensures { (s : State model) (q : Queue) → Holds shape area.now s → exists shape q ≡ true → i ≡ at shape (Tail q) → result ≡ last (s.queues q) }
 {
     links::next_field(area[i])
@@ -71,7 +71,7 @@ pub fn last_in(area: &[u16], shape: Shape, i: usize) -> u16
 // How many processes the queue whose tail stands at i has.
 pub fn count_in(area: &[u16], shape: Shape, i: usize) -> u16
     requires held { Held shape area.now }
-    requires q_value { (q : Queue) × (exists shape q ≡ true) × (i ≡ at shape (Tail q)) }
+    requires is_queue { (q : Queue) × (exists shape q ≡ true) × (i ≡ at shape (Tail q)) }
     ensures { (s : State model) (q : Queue) → Holds shape area.now s → exists shape q ≡ true → i ≡ at shape (Tail q) → result ≡ length (s.queues q) }
 {
     let (records, tail) = ring_at(area, shape, i);
@@ -151,8 +151,8 @@ pub fn queue(area: &mut [u16], base: usize, to: usize, p: u16, waits: u16) -> u1
 
 // p, which stands in ready, takes the priority v, and its place in ready by it.
 pub fn rank(area: &mut [u16], base: usize, p: u16, v: u16)
-    requires base_value { (n : Shape) × (s : State model) × (base ≡ records_at n) × Holds n area.old s × (member p (s.queues ready) ≡ true) }
-    requires v_bound { v < 8 }
+    requires holds { (n : Shape) × (s : State model) × (base ≡ records_at n) × Holds n area.old s × (member p (s.queues ready) ≡ true) }
+    requires fits { v < 8 }
     ensures { (n : Shape) (s : State model) → base ≡ records_at n → Holds n area.old s → member p (s.queues ready) ≡ true → Becomes n area.old area.new (sent p ready (with (priority p) v s)) }
 {
     let at = area::ready_at();

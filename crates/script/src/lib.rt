@@ -115,8 +115,8 @@ fn line_of(name: Name, numbers: &[u16], bytes: &mut [u8]) -> Option<Line>
 
 // What a line of any bytes says, if anything. The table has room for its numbers; Start's bytes come to the front of `bytes`.
 pub fn parse(line: &[u8], table: &mut [u16], bytes: &mut [u8]) -> Option<Line>
-    requires in_bounds { 8192 ≤ length table.old }
-    requires in_bounds_2 { 8192 ≤ length bytes.old }
+    requires numbers_fit { 8192 ≤ length table.old }
+    requires bytes_fit { 8192 ≤ length bytes.old }
     ensures { Tells result bytes.new (meaning line.now) }
 {
     if line.len() > 8192 {

@@ -29,7 +29,7 @@ const CONDITION: u16 = 3;
 // The holder, where the queue is a lock's.
 fn holder_in(area: &[u16], shape: Shape, kind: u16, number: u16) -> u16
     requires held { Held shape area.now }
-    requires number_value { is_queue shape kind number ≡ true }
+    requires is_queue { is_queue shape kind number ≡ true }
     ensures { (s : State model) → Holds shape area.now s → result ≡ holder_of s (queue_by kind number) }
 {
     match kind {
@@ -41,7 +41,7 @@ fn holder_in(area: &[u16], shape: Shape, kind: u16, number: u16) -> u16
 // The wakeup, where the queue is a condition's.
 fn wakeup_in(area: &[u16], shape: Shape, kind: u16, number: u16) -> u16
     requires held { Held shape area.now }
-    requires number_value { is_queue shape kind number ≡ true }
+    requires is_queue { is_queue shape kind number ≡ true }
     ensures { (s : State model) → Holds shape area.now s → result ≡ wakeup_of s (queue_by kind number) }
 {
     match kind {
@@ -53,7 +53,7 @@ fn wakeup_in(area: &[u16], shape: Shape, kind: u16, number: u16) -> u16
 // The row of the queue of a kind and a number. The queue is walked once, to count it; its tail is the last, and links to the first.
 fn row_of(area: &[u16], shape: Shape, kind: u16, number: u16) -> Row
     requires held { Held shape area.now }
-    requires number_value { is_queue shape kind number ≡ true }
+    requires is_queue { is_queue shape kind number ≡ true }
     ensures { (s : State model) → Holds shape area.now s → result ≡ row_of s (queue_by kind number) }
 {
     let i = moves::queue_at(shape, kind, number).unwrap();
@@ -85,7 +85,7 @@ fn count_of(shape: Shape, kind: u16) -> u16
 // The rows of these, in number order, from `at` on; where the next row goes. There is one of it for each kind: a compiler then knows the kind in the loop.
 fn put_kind<const KIND: u16>(area: &[u16], shape: Shape, page: &mut [u8], at: usize) -> usize
     requires held { Held shape area.now }
-    requires in_bounds { at + 29 * count_of shape KIND ≤ length page.old }
+    requires rows_fit { at + 29 * count_of shape KIND ≤ length page.old }
     ensures { Rows shape area.now (queue_by KIND) (count_of shape KIND) at page.old page.new result }
 {
     let mut next = at;

@@ -65,7 +65,7 @@ fn count_out(area: &mut [u16], shape: Shape)
 
 // Every process takes its priority and comes into ready, 1 first.
 fn line_up(area: &mut [u16], shape: Shape, priorities: &[u8])
-    requires priorities_value { start_code shape priorities.now ≡ 0 }
+    requires accepted { start_code shape priorities.now ≡ 0 }
     requires image { Image shape area.old (laid shape (lined [] 0)) }
     ensures { Becomes shape area.old area.new (lined priorities.now shape.processes) }
 {

@@ -30,7 +30,7 @@ fn alarm_at(now: u16, t: u16) -> u16
 // The running process p is armed and sets its timer, if it is to wait for some ticks, and moves to the condition. How many are ahead of it there.
 fn sleep(area: &mut [u16], shape: Shape, condition: u16, p: u16, ticks: Ticks) -> u16
     requires holds { (s : State model) × Holds shape area.old s × (member p (s.queues ready) ≡ true) }
-    requires condition_value { inside shape.conditions condition ≡ true }
+    requires is_condition { inside shape.conditions condition ≡ true }
     ensures { (s : State model) → Holds shape area.old s → member p (s.queues ready) ≡ true → (result ≡ length (ahead_of p ((changed (arm p ticks.0 s.fields) ((p, Queue.condition condition) ∷ []) s).queues (Queue.condition condition)))) × Becomes shape area.old area.new (changed (arm p ticks.0 s.fields) ((p, Queue.condition condition) ∷ []) s) }
 {
     let now = area::get(area, places::clock());

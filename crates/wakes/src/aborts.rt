@@ -19,8 +19,8 @@ use outcomes::{answers, codes};
 // p wakes, if the condition is abortable and p waits there. Whether it does.
 fn call_off(area: &mut [u16], shape: Shape, condition: u16, p: u16) -> bool
     requires held { Held shape area.old }
-    requires condition_value { inside shape.conditions condition ≡ true }
-    requires p_value { inside shape.processes p ≡ true }
+    requires is_condition { inside shape.conditions condition ≡ true }
+    requires is_process { inside shape.processes p ≡ true }
     ensures { (s : State model) → Holds shape area.old s → Tried (some (s.fields (abortable condition)) && member p (s.queues (Queue.condition condition))) result area.old area.new (Becomes shape area.old area.new (woken (p ∷ []) s)) }
 {
     let allowed = area::get(area, places::abortable(shape, condition));
@@ -33,7 +33,7 @@ fn call_off(area: &mut [u16], shape: Shape, condition: u16, p: u16) -> bool
 // p wakes, if it waits on a condition that is abortable. The answer is how many wake.
 fn call_off_any(area: &mut [u16], shape: Shape, p: u16) -> u16
     requires held { Held shape area.old }
-    requires p_value { inside shape.processes p ≡ true }
+    requires is_process { inside shape.processes p ≡ true }
     ensures { (s : State model) → Holds shape area.old s → (result ≡ bit (abortably shape s.fields s.queues p)) × Becomes shape area.old area.new (woken (cond (abortably shape s.fields s.queues p) (p ∷ []) []) s) }
 {
     // most do not wait

@@ -19,8 +19,8 @@ pub mod aborts;
 // p wakes, if it stands in the condition: it moves to ready, its timer is 0, and it is no longer armed. Whether it does.
 fn rouse(area: &mut [u16], shape: Shape, condition: u16, p: u16) -> bool
     requires held { Held shape area.old }
-    requires condition_value { inside shape.conditions condition ≡ true }
-    requires p_value { inside shape.processes p ≡ true }
+    requires is_condition { inside shape.conditions condition ≡ true }
+    requires is_process { inside shape.processes p ≡ true }
     ensures { (s : State model) → Holds shape area.old s → Tried (member p (s.queues (Queue.condition condition))) result area.old area.new (Becomes shape area.old area.new (woken (p ∷ []) s)) }
 {
     let from = area::condition_at(shape, condition);
@@ -37,7 +37,7 @@ fn rouse(area: &mut [u16], shape: Shape, condition: u16, p: u16) -> bool
 // The first of the condition wakes, if there is one. The answer is how many.
 fn wake_first(area: &mut [u16], shape: Shape, condition: u16) -> u16
     requires held { Held shape area.old }
-    requires condition_value { inside shape.conditions condition ≡ true }
+    requires is_condition { inside shape.conditions condition ≡ true }
     ensures { (s : State model) → Holds shape area.old s → (result ≡ length (first_only (s.queues (Queue.condition condition)))) × Becomes shape area.old area.new (woken (first_only (s.queues (Queue.condition condition))) s) }
 {
     let at = area::condition_at(shape, condition);

@@ -9,7 +9,7 @@ ghost use Rattle.words.specs.Read.{word, after, Reads, Bytes};
 // How many of these bytes stand before the first space.
 fn until_space(bytes: &[u8]) -> usize
     ensures value { result ≡ position_or_len (λ b. b == 32) bytes.now }
-    ensures upper_bound { result ≤ length bytes.now }
+    ensures within { result ≤ length bytes.now }
 {
     bytes.iter().take_while(|b| **b != b' ').count()
 }
@@ -18,7 +18,7 @@ fn until_space(bytes: &[u8]) -> usize
 pub fn word_end(line: &[u8], from: usize) -> usize
     requires { from ≤ length line.now }
     ensures value { result ≡ from + length (word (drop from line.now)) }
-    ensures upper_bound { result ≤ length line.now }
+    ensures within { result ≤ length line.now }
 {
     from + until_space(&line[from..])
 }
@@ -51,9 +51,9 @@ pub fn equal(a: &[u8], b: &[u8]) -> bool
 // The numbers after the word that ends at `from`, put into `table`: how many they are, where each is one.
 #[tactic(auto, using(crate::proofs::After::after_on, crate::proofs::After::put_on))]
 pub fn numbers(line: &[u8], from: usize, table: &mut [u16]) -> Option<usize>
-    requires from_in_bounds { from ≤ length line.now }
-    requires line_len_bound { length line.now ≤ 8192 }
-    requires in_bounds { 8192 ≤ length table.old }
+    requires from_within { from ≤ length line.now }
+    requires short_line { length line.now ≤ 8192 }
+    requires numbers_fit { 8192 ≤ length table.old }
     ensures { Reads result table.new (after (drop from line.now)) }
 {
     let mut at = from;

@@ -12,13 +12,13 @@ pub set_flag-requires : goal.set_flag-requires
 set_flag-requires c =
     let h = c.requires in
     let a = lent_calm h.1 _ h.3 h.4 h.5 ((c.from.result - 1) * 3 + 2) (omega arith) in
-    record { by_index = (h.0, h.1, _, kept (armed c.args.p), h.3, a.image, h.5, (refl, refl, refl)); value_bound = omega arith }
+    record { image = (h.0, h.1, _, kept (armed c.args.p), h.3, a.image, h.5, (refl, refl, refl)); is_bit = omega arith }
 
 pub set_waiting-requires : goal.set_waiting-requires
 set_waiting-requires c =
     let h = c.requires in
     let a = lent_calm h.1 _ h.3 h.4 h.5 ((c.from.result - 1) * 3 + 2) (omega arith) in
-    record { by_index = (h.0, h.1, _, h.3, (c.set_flag.ensures h.0 h.1 _ (kept (armed c.args.p)) h.3 a.image h.5 (refl, refl, refl)).image, h.5); waits_bound = omega arith }
+    record { image = (h.0, h.1, _, h.3, (c.set_flag.ensures h.0 h.1 _ (kept (armed c.args.p)) h.3 a.image h.5 (refl, refl, refl)).image, h.5); is_bit = omega arith }
 
 pub returns : goal.returns
 returns c n front t fits im h =

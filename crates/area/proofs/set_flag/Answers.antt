@@ -5,8 +5,8 @@ use Rattle.area.proofs.set_flag.Goals as goal
 
 pub with_part-requires : goal.with_part-requires
 with_part-requires c =
-    let r = lent_flag_room c.requires.by_index.1 _ c.requires.by_index.4 c.requires.by_index.5 c.requires.by_index.6 c.requires.by_index.3 c.requires.by_index.7 c.requires.value_bound in
+    let r = lent_flag_room c.requires.image.1 _ c.requires.image.4 c.requires.image.5 c.requires.image.6 c.requires.image.3 c.requires.image.7 c.requires.is_bit in
     (omega arith, r.0, r.1, rw c.from.ensures r.2)
 
 pub returns : goal.returns
-returns c n front t f fits im h F = rw c.from.ensures (lent_flag front _ fits im h f F c.requires.value_bound _ (rw c.from.ensures at c.with_part.ensures))
+returns c n front t f fits im h F = rw c.from.ensures (lent_flag front _ fits im h f F c.requires.is_bit _ (rw c.from.ensures at c.with_part.ensures))

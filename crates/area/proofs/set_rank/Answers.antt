@@ -6,7 +6,7 @@ use Rattle.area.proofs.Lent.{lent_rank}
 use Rattle.area.proofs.set_rank.Goals as goal
 
 pub with_part-requires : goal.with_part-requires
-with_part-requires c = (omega arith, omega arith, (13, refl), omega (arith, c.slice_known-2-1.given ((c.from.result - 1) * 3), c.requires.v_bound))
+with_part-requires c = (omega arith, omega arith, (13, refl), omega (arith, c.slice_known-2-1.given ((c.from.result - 1) * 3), c.requires.fits))
 
 pub returns : goal.returns
-returns c n front t fits im h = rw c.from.ensures (lent_rank front _ fits im h _ _ c.requires.v_bound (rw c.from.ensures at c.with_part.ensures))
+returns c n front t fits im h = rw c.from.ensures (lent_rank front _ fits im h _ _ c.requires.fits (rw c.from.ensures at c.with_part.ensures))

@@ -14,4 +14,4 @@ set_bit true = refl
 set_bit false = refl
 
 pub returns : goal.returns
-returns c s H = ap {A = ℕ} (λ k. not (eqb k 0)) (c.part_of.ensures ∙ ap (λ (k : ℕ). get_or c.args.area.now (k + 1) 0 / 2 % 2) c.record_at-at.ensures ∙ load _ _ _ H.image (waiting c.args.p) c.requires.p_value) ∙ set_bit _
+returns c s H = ap {A = ℕ} (λ k. not (eqb k 0)) (c.part_of.ensures ∙ ap (λ (k : ℕ). get_or c.args.area.now (k + 1) 0 / 2 % 2) c.record_at-at.ensures ∙ load _ _ _ H.image (waiting c.args.p) c.requires.is_process) ∙ set_bit _

@@ -8,7 +8,7 @@ use Rattle.links.proofs.Links.{next_small, point_read}
 use Rattle.links.proofs.follow.Goals as goal
 
 pub set_next-requires : goal.set_next-requires
-set_next-requires c = record { stands = c.requires.stands_2; n_bound = omega (arith, c.next_field.ensures) }
+set_next-requires c = record { stands = c.requires.newcomer_stands; is_number = omega (arith, c.next_field.ensures) }
 
 pub returns : goal.returns
 unfolding next

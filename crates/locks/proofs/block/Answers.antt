@@ -21,12 +21,12 @@ queue-requires c =
     let n = c.args.shape in
     let L = c.failed.ensures in
     let b = c.put.ensures n c.requires.holds.0 (failed c.args.p) c.requires.holds.1 (taking (failed c.args.p) L refl (rw L.0 (omega arith))) in
-    (n, c.records_at-base.ensures, going b.holds ready (lock c.args.lock) refl c.requires.lock_value refl c.lock_at-to.ensures c.requires.holds.2 refl, refl)
+    (n, c.records_at-base.ensures, going b.holds ready (lock c.args.lock) refl c.requires.is_lock refl c.lock_at-to.ensures c.requires.holds.2 refl, refl)
 
 pub returns : goal.returns
 returns c s H m =
     let n = c.args.shape in
     let L = c.failed.ensures in
     let b = c.put.ensures n s (failed c.args.p) H (taking (failed c.args.p) L refl (rw L.0 (omega arith))) in
-    let q = c.queue.ensures n c.records_at-base.ensures (going b.holds ready (lock c.args.lock) refl c.requires.lock_value refl c.lock_at-to.ensures m refl) refl in
+    let q = c.queue.ensures n c.records_at-base.ensures (going b.holds ready (lock c.args.lock) refl c.requires.is_lock refl c.lock_at-to.ensures m refl) refl in
     (q.0, becomes_then b q.1)

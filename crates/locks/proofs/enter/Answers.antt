@@ -14,7 +14,7 @@ returns-in_err-calling c s H v =
     enter_refused H c.args.lock (c.running_of-running.ensures n s H) c.in_err-calling.ensures (refusing _) (passed_on _ _ c.from_residual.ensures.1)
 
 pub holder_of-holder-requires : goal.holder_of-holder-requires
-holder_of-holder-requires c = record { held = (c.requires.state, c.requires.holds); l_value = calling_there c.in_ok-calling.ensures refl }
+holder_of-holder-requires c = record { held = (c.requires.state, c.requires.holds); is_lock = calling_there c.in_ok-calling.ensures refl }
 
 pub returns-then-holder-running : goal.returns-then-holder-running
 returns-then-holder-running c s H v =
@@ -25,7 +25,7 @@ pub set_holder-requires : goal.set_holder-requires
 set_holder-requires c =
     let n = c.args.shape in
     let pre = c.requires in
-    let runs = c.running_of-running.ensures n pre.state pre.holds in record { held = (pre.state, pre.holds); l_value = calling_there c.in_ok-calling.ensures refl; p_le_processes = runner_small runs pre.valid }
+    let runs = c.running_of-running.ensures n pre.state pre.holds in record { held = (pre.state, pre.holds); is_lock = calling_there c.in_ok-calling.ensures refl; is_process_or_none = runner_small runs pre.valid }
 
 pub finish-requires : goal.finish-requires
 finish-requires c = (_, (c.set_holder.ensures c.requires.state c.requires.holds).holds)
@@ -42,7 +42,7 @@ block-ahead-requires c =
     let n = c.args.shape in
     let pre = c.requires in
     let runs = c.running_of-running.ensures n pre.state pre.holds in
-    let calling = c.in_ok-calling in record { holds = (pre.state, pre.holds, runner_stands runs pre.valid (calling_runs calling.ensures refl)); lock_value = calling_there calling.ensures refl }
+    let calling = c.in_ok-calling in record { holds = (pre.state, pre.holds, runner_stands runs pre.valid (calling_runs calling.ensures refl)); is_lock = calling_there calling.ensures refl }
 
 pub finish-requires-2 : goal.finish-requires-2
 finish-requires-2 c =

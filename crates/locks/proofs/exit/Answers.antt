@@ -13,7 +13,7 @@ returns-in_err-calling c s H v =
     exit_refused H c.args.lock (c.running_of-running.ensures n s H) c.in_err-calling.ensures (refusing _) (passed_on _ _ c.from_residual.ensures.1)
 
 pub holder_of-holder-requires : goal.holder_of-holder-requires
-holder_of-holder-requires c = record { held = (c.requires.state, c.requires.holds); l_value = calling_there c.in_ok-calling.ensures refl }
+holder_of-holder-requires c = record { held = (c.requires.state, c.requires.holds); is_lock = calling_there c.in_ok-calling.ensures refl }
 
 pub returns-then-holder-running : goal.returns-then-holder-running
 returns-then-holder-running c s H v =
@@ -21,7 +21,7 @@ returns-then-holder-running c s H v =
     exit_foreign H c.args.lock (c.running_of-running.ensures n s H) c.in_ok-calling.ensures refl (c.holder_of-holder.ensures s H) c.if-holder-running.true refl
 
 pub release-moved-requires : goal.release-moved-requires
-release-moved-requires c = record { held = (c.requires.state, c.requires.holds); lock_value = calling_there c.in_ok-calling.ensures refl }
+release-moved-requires c = record { held = (c.requires.state, c.requires.holds); is_lock = calling_there c.in_ok-calling.ensures refl }
 
 pub finish-requires : goal.finish-requires
 finish-requires c = (_, (c.release-moved.ensures c.requires.state c.requires.holds).1.holds)

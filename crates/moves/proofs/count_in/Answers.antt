@@ -2,4 +2,4 @@
 use Rattle.moves.proofs.count_in.Goals as goal
 
 pub length_of-requires : goal.length_of-requires
-length_of-requires c = let q = c.requires.q_value in (_, c.ring_at-tail.ensures c.requires.held.0 q.0 c.requires.held.1 q.1 q.2)
+length_of-requires c = let q = c.requires.is_queue in (_, c.ring_at-tail.ensures c.requires.held.0 q.0 c.requires.held.1 q.1 q.2)

@@ -2,4 +2,4 @@
 use Rattle.moves.proofs.first_in.Goals as goal
 
 pub first_of-requires : goal.first_of-requires
-first_of-requires c = let q = c.requires.q_value in (_, c.ring_at-tail.ensures c.requires.held.0 q.0 c.requires.held.1 q.1 q.2)
+first_of-requires c = let q = c.requires.is_queue in (_, c.ring_at-tail.ensures c.requires.held.0 q.0 c.requires.held.1 q.1 q.2)

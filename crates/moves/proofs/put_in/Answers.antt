@@ -6,7 +6,7 @@ use Rattle.moves.proofs.put_in.Goals as goal
 pub join-arrival-requires : goal.join-arrival-requires
 join-arrival-requires c =
     let pre = c.requires in
-    let L = lent_join pre.2 pre.1 c.next_field.ensures in record { stands = L.0; by_index = (_, L.1, L.2, pre.2.out pre.2.queue) }
+    let L = lent_join pre.2 pre.1 c.next_field.ensures in record { stands = L.0; in_ring = (_, L.1, L.2, pre.2.out pre.2.queue) }
 
 pub with_next-requires : goal.with_next-requires
 with_next-requires c =

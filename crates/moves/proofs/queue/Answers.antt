@@ -27,7 +27,7 @@ set_waiting-requires c =
     let pre = c.requires in
     let m = move_from pre.2 (c.ready_at-from.ensures pre.0) in
     let out = c.take_out in
-    let L = (out.ensures pre.0 pre.1 (move_leaves m)).done pre.3 in record { by_index = (pre.0, take (records_at pre.0) out.new.area, L.parts, lent_front pre.1 L.rings.image, lent_image pre.1 L.rings.image, m.process); waits_bound = omega (arith, move_waits m) }
+    let L = (out.ensures pre.0 pre.1 (move_leaves m)).done pre.3 in record { image = (pre.0, take (records_at pre.0) out.new.area, L.parts, lent_front pre.1 L.rings.image, lent_image pre.1 L.rings.image, m.process); is_bit = omega (arith, move_waits m) }
 
 pub put_in-arrival-requires : goal.put_in-arrival-requires
 put_in-arrival-requires c =

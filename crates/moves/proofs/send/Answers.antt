@@ -24,7 +24,7 @@ set_waiting-requires c =
     let m = pre.2 in
     let t = c.take_out.ensures pre.0 pre.1 (move_leaves m) in
     let yes = sym t.told ∙ not-false c.take_out.result c.if-not-take_out.false-raw in
-    let L = t.done yes in record { by_index = (pre.0, take (records_at pre.0) c.take_out.new.area, L.parts, lent_front pre.1 L.rings.image, lent_image pre.1 L.rings.image, m.process); waits_bound = omega (arith, move_waits m) }
+    let L = t.done yes in record { image = (pre.0, take (records_at pre.0) c.take_out.new.area, L.parts, lent_front pre.1 L.rings.image, lent_image pre.1 L.rings.image, m.process); is_bit = omega (arith, move_waits m) }
 
 pub put_in-requires : goal.put_in-requires
 put_in-requires c =

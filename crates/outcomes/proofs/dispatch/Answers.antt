@@ -10,7 +10,7 @@ use Rattle.moves.proofs.Shared.{taking}
 use Rattle.outcomes.proofs.dispatch.Goals as goal
 
 pub first_in-first-requires : goal.first_in-first-requires
-first_in-first-requires c = record { held = c.requires; q_value = (ready, refl, c.ready_at-at.ensures c.args.shape) }
+first_in-first-requires c = record { held = c.requires; is_queue = (ready, refl, c.ready_at-at.ensures c.args.shape) }
 
 pub set_running-requires : goal.set_running-requires
 set_running-requires c =

@@ -27,7 +27,7 @@ count_out-requires c =
 pub line_up-requires : goal.line_up-requires
 line_up-requires c =
     let ok : let s = c.args in start_code s.shape s.priorities.now ≡ 0 = sym c.in_ok-tested.ensures in
-    record { priorities_value = ok; image = c.count_out.ensures.image }
+    record { accepted = ok; image = c.count_out.ensures.image }
 
 pub finish-requires : goal.finish-requires
 finish-requires c = (_, c.line_up.ensures.holds)

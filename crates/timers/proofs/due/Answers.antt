@@ -41,8 +41,8 @@ write_due-requires c =
     let S = shown a.shape a.area.now c.get-clock.ensures c.clock.ensures r.state r.holds r.valid in
     (r.state, S, omega (arith, c.count_due-count.ensures r.state S))
 
-pub arrange-requires-clause-count_bound : goal.arrange-requires-clause-count_bound
-arrange-requires-clause-count_bound c =
+pub arrange-requires-clause-room : goal.arrange-requires-clause-room
+arrange-requires-clause-room c =
     let a = c.args in
     let r = c.requires in
     let S = shown a.shape a.area.now c.get-clock.ensures c.clock.ensures r.state r.holds r.valid in

@@ -38,7 +38,7 @@ queue-requires c =
     let a = arms s H in
     becomes_then a (c.put-2.ensures u.shape _ (timer u.p) a.holds (taking (timer u.p) L refl (rw L.0 (omega arith)))) in
     let b = times c.requires.holds.0 c.requires.holds.1 in
-    (c.args.shape, c.records_at-base.ensures, going b.holds ready (condition c.args.condition) refl c.requires.condition_value refl c.condition_at-to.ensures c.requires.holds.2 refl, refl)
+    (c.args.shape, c.records_at-base.ensures, going b.holds ready (condition c.args.condition) refl c.requires.is_condition refl c.condition_at-to.ensures c.requires.holds.2 refl, refl)
 
 pub returns : goal.returns
 returns c s H m =
@@ -50,5 +50,5 @@ returns c s H m =
     let n = c.args.shape in
     let now = c.get-now.ensures n s clock H (c.clock.ensures n) in
     let b = times s H in
-    let q = c.queue.ensures n c.records_at-base.ensures (going b.holds ready (condition c.args.condition) refl c.requires.condition_value refl c.condition_at-to.ensures m refl) refl in
+    let q = c.queue.ensures n c.records_at-base.ensures (going b.holds ready (condition c.args.condition) refl c.requires.is_condition refl c.condition_at-to.ensures m refl) refl in
     (q.0, sleeps s c.args.p c.args.condition c.args.ticks.0 c.bit_of.ensures.0 now c.alarm_at.ensures (becomes_then b q.1))

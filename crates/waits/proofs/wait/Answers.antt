@@ -23,19 +23,19 @@ pub returns-in_err-calling_two : goal.returns-in_err-calling_two
 returns-in_err-calling_two c s H v = wait_refused H c.args.lock c.args.condition c.args.ticks (c.running_of-running.ensures c.args.shape s H) c.in_err-calling_two.ensures (refusing _) (passed_on _ _ c.from_residual.ensures.1)
 
 pub holder_of-holder-requires : goal.holder_of-holder-requires
-holder_of-holder-requires c = record { held = (c.requires.state, c.requires.holds); l_value = two_first c.in_ok-calling_two.ensures refl }
+holder_of-holder-requires c = record { held = (c.requires.state, c.requires.holds); is_lock = two_first c.in_ok-calling_two.ensures refl }
 
 pub returns-then-holder-running : goal.returns-then-holder-running
 returns-then-holder-running c s H v = wait_foreign H c.args.lock c.args.condition c.args.ticks (c.running_of-running.ensures c.args.shape s H) c.in_ok-calling_two.ensures refl (c.holder_of-holder.ensures s H) c.if-holder-running.true refl
 
 pub release-moved-requires : goal.release-moved-requires
-release-moved-requires c = record { held = (c.requires.state, c.requires.holds); lock_value = two_first c.in_ok-calling_two.ensures refl }
+release-moved-requires c = record { held = (c.requires.state, c.requires.holds); is_lock = two_first c.in_ok-calling_two.ensures refl }
 
 pub called_off-off-requires : goal.called_off-off-requires
 called_off-off-requires c =
     let runner : inside c.args.shape.processes c.running_of-running.result ≡ true = member_inside c.args.shape c.requires.state c.requires.valid.placed _ ready
     (runner_stands (c.running_of-running.ensures c.args.shape c.requires.state c.requires.holds) c.requires.valid (two_runs c.in_ok-calling_two.ensures refl)) in
-    record { held = (_, (c.release-moved.ensures c.requires.state c.requires.holds).1.holds); p_value = runner; condition_value = two_second c.in_ok-calling_two.ensures refl }
+    record { held = (_, (c.release-moved.ensures c.requires.state c.requires.holds).1.holds); is_process = runner; is_condition = two_second c.in_ok-calling_two.ensures refl }
 
 pub finish-requires : goal.finish-requires
 finish-requires c = (_, (c.release-moved.ensures c.requires.state c.requires.holds).1.holds)
@@ -77,7 +77,7 @@ returns-then-wakeup-ne0 c s H v =
 pub sleep-ahead-requires : goal.sleep-ahead-requires
 sleep-ahead-requires c =
     let waiter : (s : State model) → Holds c.args.shape c.args.area.now s → Valid c.args.shape s → member c.running_of-running.result ((changed (put (holder c.args.lock) 0 s.fields) (released s.queues c.args.lock) s).queues ready) ≡ true = λ s H v. waiter_stands s c.args.lock (c.running_of-running.ensures c.args.shape s H) v (two_runs c.in_ok-calling_two.ensures refl) in
-    record { holds = (_, (c.release-moved.ensures c.requires.state c.requires.holds).1.holds, waiter c.requires.state c.requires.holds c.requires.valid); condition_value = two_second c.in_ok-calling_two.ensures refl }
+    record { holds = (_, (c.release-moved.ensures c.requires.state c.requires.holds).1.holds, waiter c.requires.state c.requires.holds c.requires.valid); is_condition = two_second c.in_ok-calling_two.ensures refl }
 
 pub finish-requires-2 : goal.finish-requires-2
 finish-requires-2 c =

@@ -12,7 +12,7 @@ pub returns-in_err-missing : goal.returns-in_err-missing
 returns-in_err-missing c s H v = naked_refused H c.args.condition c.in_err-missing.ensures (refusing _) (passed_on _ _ c.from_residual.ensures.1)
 
 pub wake_first-moved-requires : goal.wake_first-moved-requires
-wake_first-moved-requires c = record { held = (c.requires.state, c.requires.holds); condition_value = missing_there c.in_ok-missing.ensures refl }
+wake_first-moved-requires c = record { held = (c.requires.state, c.requires.holds); is_condition = missing_there c.in_ok-missing.ensures refl }
 
 pub finish-requires : goal.finish-requires
 finish-requires c = (_, (c.wake_first-moved.ensures c.requires.state c.requires.holds).1.holds)

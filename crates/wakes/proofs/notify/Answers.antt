@@ -13,7 +13,7 @@ returns-in_err-calling c s H v =
     notify_refused H u.condition (c.running_of-running.ensures u.shape s H) c.in_err-calling.ensures (refusing _) (passed_on _ _ c.from_residual.ensures.1)
 
 pub wake_first-moved-requires : goal.wake_first-moved-requires
-wake_first-moved-requires c = record { held = (c.requires.state, c.requires.holds); condition_value = calling_there c.in_ok-calling.ensures refl }
+wake_first-moved-requires c = record { held = (c.requires.state, c.requires.holds); is_condition = calling_there c.in_ok-calling.ensures refl }
 
 pub finish-requires : goal.finish-requires
 finish-requires c = (_, (c.wake_first-moved.ensures c.requires.state c.requires.holds).1.holds)

@@ -14,26 +14,26 @@ use Rattle.moves.proofs.Tries.{did, did_not}
 use Rattle.wakes.proofs.rouse.Goals as goal
 
 pub condition_at-from-requires : goal.condition_at-from-requires
-condition_at-from-requires c = c.requires.condition_value
+condition_at-from-requires c = c.requires.is_condition
 
 pub send-requires : goal.send-requires
-send-requires c = (c.args.shape, c.records_at-base.ensures, trying c.requires.held.1 (condition c.args.condition) ready c.requires.condition_value refl c.condition_at-from.ensures (c.ready_at-to.ensures c.args.shape) c.requires.p_value refl)
+send-requires c = (c.args.shape, c.records_at-base.ensures, trying c.requires.held.1 (condition c.args.condition) ready c.requires.is_condition refl c.condition_at-from.ensures (c.ready_at-to.ensures c.args.shape) c.requires.is_process refl)
 
 pub returns-then-not-send : goal.returns-then-not-send
 returns-then-not-send c s H =
     let moves : (s : State model) → Holds c.args.shape c.args.area.now s → Tried (member c.args.p (s.queues (condition c.args.condition))) c.send.result c.args.area.now c.send.new.area (Becomes c.args.shape c.args.area.now c.send.new.area (sent c.args.p ready s)) = λ s H. c.send.ensures c.args.shape c.records_at-base.ensures
-    (trying H (condition c.args.condition) ready c.requires.condition_value refl c.condition_at-from.ensures (c.ready_at-to.ensures c.args.shape) c.requires.p_value refl) in
+    (trying H (condition c.args.condition) ready c.requires.is_condition refl c.condition_at-from.ensures (c.ready_at-to.ensures c.args.shape) c.requires.is_process refl) in
     let t = moves s H in
     let no = sym t.told ∙ not_true c.send.result c.if-not-send.true-raw in
     did_not no (t.kept no)
 
 pub timer-requires : goal.timer-requires
-timer-requires c = c.requires.p_value
+timer-requires c = c.requires.is_process
 
 pub put-requires : goal.put-requires
 put-requires c =
     let moves : (s : State model) → Holds c.args.shape c.args.area.now s → Tried (member c.args.p (s.queues (condition c.args.condition))) c.send.result c.args.area.now c.send.new.area (Becomes c.args.shape c.args.area.now c.send.new.area (sent c.args.p ready s)) = λ s H. c.send.ensures c.args.shape c.records_at-base.ensures
-    (trying H (condition c.args.condition) ready c.requires.condition_value refl c.condition_at-from.ensures (c.ready_at-to.ensures c.args.shape) c.requires.p_value refl) in
+    (trying H (condition c.args.condition) ready c.requires.is_condition refl c.condition_at-from.ensures (c.ready_at-to.ensures c.args.shape) c.requires.is_process refl) in
     let moved : (s : State model) → Holds c.args.shape c.args.area.now s → (member c.args.p (s.queues (condition c.args.condition)) ≡ true) × Becomes c.args.shape c.args.area.now c.send.new.area (sent c.args.p ready s) = λ s H. let t = moves s H in
     let yes = sym t.told ∙ not_false c.send.result c.if-not-send.false-raw in
     (yes, t.done yes) in
@@ -41,12 +41,12 @@ put-requires c =
     (c.args.shape, timer c.args.p, (_, (moved _ c.requires.held.1).1.holds), taking (timer c.args.p) L refl (rw L.0 (omega arith)))
 
 pub armed-requires : goal.armed-requires
-armed-requires c = c.requires.p_value
+armed-requires c = c.requires.is_process
 
 pub put-requires-2 : goal.put-requires-2
 put-requires-2 c =
     let moves : (s : State model) → Holds c.args.shape c.args.area.now s → Tried (member c.args.p (s.queues (condition c.args.condition))) c.send.result c.args.area.now c.send.new.area (Becomes c.args.shape c.args.area.now c.send.new.area (sent c.args.p ready s)) = λ s H. c.send.ensures c.args.shape c.records_at-base.ensures
-    (trying H (condition c.args.condition) ready c.requires.condition_value refl c.condition_at-from.ensures (c.ready_at-to.ensures c.args.shape) c.requires.p_value refl) in
+    (trying H (condition c.args.condition) ready c.requires.is_condition refl c.condition_at-from.ensures (c.ready_at-to.ensures c.args.shape) c.requires.is_process refl) in
     let moved : (s : State model) → Holds c.args.shape c.args.area.now s → (member c.args.p (s.queues (condition c.args.condition)) ≡ true) × Becomes c.args.shape c.args.area.now c.send.new.area (sent c.args.p ready s) = λ s H. let t = moves s H in
     let yes = sym t.told ∙ not_false c.send.result c.if-not-send.false-raw in
     (yes, t.done yes) in
@@ -59,7 +59,7 @@ put-requires-2 c =
 pub returns : goal.returns
 returns c s H =
     let moves : (s : State model) → Holds c.args.shape c.args.area.now s → Tried (member c.args.p (s.queues (condition c.args.condition))) c.send.result c.args.area.now c.send.new.area (Becomes c.args.shape c.args.area.now c.send.new.area (sent c.args.p ready s)) = λ s H. c.send.ensures c.args.shape c.records_at-base.ensures
-    (trying H (condition c.args.condition) ready c.requires.condition_value refl c.condition_at-from.ensures (c.ready_at-to.ensures c.args.shape) c.requires.p_value refl) in
+    (trying H (condition c.args.condition) ready c.requires.is_condition refl c.condition_at-from.ensures (c.ready_at-to.ensures c.args.shape) c.requires.is_process refl) in
     let moved : (s : State model) → Holds c.args.shape c.args.area.now s → (member c.args.p (s.queues (condition c.args.condition)) ≡ true) × Becomes c.args.shape c.args.area.now c.send.new.area (sent c.args.p ready s) = λ s H. let t = moves s H in
     let yes = sym t.told ∙ not_false c.send.result c.if-not-send.false-raw in
     (yes, t.done yes) in

@@ -5,16 +5,16 @@ use Rattle.wakes.proofs.Waking.{first_none, first_wakes}
 use Rattle.wakes.proofs.wake_first.Goals as goal
 
 pub first_in-first-requires : goal.first_in-first-requires
-first_in-first-requires c = record { held = c.requires.held; q_value = (condition c.args.condition, c.requires.condition_value, c.condition_at-at.ensures) }
+first_in-first-requires c = record { held = c.requires.held; is_queue = (condition c.args.condition, c.requires.is_condition, c.condition_at-at.ensures) }
 
 pub returns-then-first-eq0 : goal.returns-then-first-eq0
-returns-then-first-eq0 c s H = first_none H c.args.condition (c.first_in-first.ensures s (condition c.args.condition) H c.requires.condition_value c.condition_at-at.ensures) c.if-first-eq0.true
+returns-then-first-eq0 c s H = first_none H c.args.condition (c.first_in-first.ensures s (condition c.args.condition) H c.requires.is_condition c.condition_at-at.ensures) c.if-first-eq0.true
 
 pub rouse-requires : goal.rouse-requires
-rouse-requires c = let q = condition c.args.condition in record { held = c.requires.held; condition_value = c.requires.condition_value; p_value = first_inside c.requires.held.1 q (c.first_in-first.ensures _ q c.requires.held.1 c.requires.condition_value c.condition_at-at.ensures) c.if-first-eq0.false }
+rouse-requires c = let q = condition c.args.condition in record { held = c.requires.held; is_condition = c.requires.is_condition; is_process = first_inside c.requires.held.1 q (c.first_in-first.ensures _ q c.requires.held.1 c.requires.is_condition c.condition_at-at.ensures) c.if-first-eq0.false }
 
 pub returns : goal.returns
 returns c s H =
     let q = condition c.args.condition in
-    let e = c.first_in-first.ensures s q H c.requires.condition_value c.condition_at-at.ensures in
+    let e = c.first_in-first.ensures s q H c.requires.is_condition c.condition_at-at.ensures in
     first_wakes H c.args.condition e c.if-first-eq0.false ((c.rouse.ensures s H).done (first_there H q e c.if-first-eq0.false))

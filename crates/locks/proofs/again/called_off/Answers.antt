@@ -4,7 +4,7 @@ use Rattle.locks.proofs.Reentry.{off_clear, off_set}
 use Rattle.locks.proofs.again.called_off.Goals as goal
 
 pub abort-requires : goal.abort-requires
-abort-requires c = c.requires.p_value
+abort-requires c = c.requires.is_process
 
 pub get-requires : goal.get-requires
 get-requires c = (c.args.shape, abort c.args.p, c.requires.held, c.abort.ensures)
@@ -13,7 +13,7 @@ pub returns-else-get-ne0 : goal.returns-else-get-ne0
 returns-else-get-ne0 c s H = off_clear (c.get.ensures c.args.shape s (abort c.args.p) H c.abort.ensures) _ c.if-get-ne0.false
 
 pub abortable-requires : goal.abortable-requires
-abortable-requires c = c.requires.condition_value
+abortable-requires c = c.requires.is_condition
 
 pub get-requires-then-get-ne0 : goal.get-requires-then-get-ne0
 get-requires-then-get-ne0 c = (c.args.shape, abortable c.args.condition, c.requires.held, c.abortable.ensures)

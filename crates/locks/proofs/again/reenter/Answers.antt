@@ -22,7 +22,7 @@ pub returns-in_err-calling_two : goal.returns-in_err-calling_two
 returns-in_err-calling_two c s H v = reenter_refused H c.args.lock c.args.condition (c.running_of-running.ensures c.args.shape s H) c.in_err-calling_two.ensures (refusing _) (passed_on _ _ c.from_residual.ensures.1)
 
 pub holder_of-holder-requires : goal.holder_of-holder-requires
-holder_of-holder-requires c = record { held = (c.requires.state, c.requires.holds); l_value = two_first c.in_ok-calling_two.ensures refl }
+holder_of-holder-requires c = record { held = (c.requires.state, c.requires.holds); is_lock = two_first c.in_ok-calling_two.ensures refl }
 
 pub returns-then-holder-running : goal.returns-then-holder-running
 returns-then-holder-running c s H v =
@@ -32,7 +32,7 @@ returns-then-holder-running c s H v =
 pub block-ahead-requires : goal.block-ahead-requires
 block-ahead-requires c =
     let stands : (s : State model) → Holds c.args.shape c.args.area.now s → Valid c.args.shape s → member c.running_of-running.result (s.queues ready) ≡ true = λ s H v. runner_stands (c.running_of-running.ensures c.args.shape s H) v (two_runs c.in_ok-calling_two.ensures refl) in
-    record { holds = (c.requires.state, c.requires.holds, stands c.requires.state c.requires.holds c.requires.valid); lock_value = two_first c.in_ok-calling_two.ensures refl }
+    record { holds = (c.requires.state, c.requires.holds, stands c.requires.state c.requires.holds c.requires.valid); is_lock = two_first c.in_ok-calling_two.ensures refl }
 
 pub finish-requires : goal.finish-requires
 finish-requires c =
@@ -50,7 +50,7 @@ pub called_off-requires : goal.called_off-requires
 called_off-requires c =
     let stands : (s : State model) → Holds c.args.shape c.args.area.now s → Valid c.args.shape s → member c.running_of-running.result (s.queues ready) ≡ true = λ s H v. runner_stands (c.running_of-running.ensures c.args.shape s H) v (two_runs c.in_ok-calling_two.ensures refl) in
     let runner : inside c.args.shape.processes c.running_of-running.result ≡ true = member_inside c.args.shape c.requires.state c.requires.valid.placed _ ready (stands c.requires.state c.requires.holds c.requires.valid) in
-    record { held = (c.requires.state, c.requires.holds); p_value = runner; condition_value = two_second c.in_ok-calling_two.ensures refl }
+    record { held = (c.requires.state, c.requires.holds); is_process = runner; is_condition = two_second c.in_ok-calling_two.ensures refl }
 
 pub abort-requires : goal.abort-requires
 abort-requires c =
@@ -75,7 +75,7 @@ returns-then-called_off c s H v =
     reenter_off H c.args.lock c.args.condition (c.running_of-running.ensures c.args.shape s H) c.in_ok-calling_two.ensures refl (c.called_off.ensures s H) (c.holder_of-holder.ensures s H) c.if-holder-running.false c.if-holder-ne0.false c.if-called_off.true b (c.finish-then-called_off.ensures _ b.holds)
 
 pub set_holder-requires : goal.set_holder-requires
-set_holder-requires c = record { held = (c.requires.state, c.requires.holds); l_value = two_first c.in_ok-calling_two.ensures refl; p_le_processes = runner_small (c.running_of-running.ensures c.args.shape c.requires.state c.requires.holds) c.requires.valid }
+set_holder-requires c = record { held = (c.requires.state, c.requires.holds); is_lock = two_first c.in_ok-calling_two.ensures refl; is_process_or_none = runner_small (c.running_of-running.ensures c.args.shape c.requires.state c.requires.holds) c.requires.valid }
 
 pub finish-requires-2 : goal.finish-requires-2
 finish-requires-2 c = (_, (c.set_holder.ensures c.requires.state c.requires.holds).holds)

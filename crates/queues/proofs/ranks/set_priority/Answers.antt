@@ -26,7 +26,7 @@ rank-requires c =
     let pre = c.requires in
     let records_at_lem = c.records_at-base in
     let runs = c.running_of-running.ensures n pre.state pre.holds in
-    let if2 = c.if-v-gt-HIGHEST in record { base_value = (n, pre.state, records_at_lem.ensures, pre.holds, runner_stands runs pre.valid c.if-running-eq0.false); v_bound = omega (arith, if2.false) }
+    let if2 = c.if-v-gt-HIGHEST in record { holds = (n, pre.state, records_at_lem.ensures, pre.holds, runner_stands runs pre.valid c.if-running-eq0.false); fits = omega (arith, if2.false) }
 
 pub finish-requires : goal.finish-requires
 finish-requires c =

@@ -20,7 +20,7 @@ put-requires c =
     (c.args.shape, abort c.args.process.0, (c.requires.state, c.requires.holds), taking (abort c.args.process.0) L refl (rw L.0 (omega arith)))
 
 pub call_off_any-moved-requires : goal.call_off_any-moved-requires
-call_off_any-moved-requires c = let L = c.abort.ensures in record { held = (_, (c.put.ensures c.args.shape _ (abort c.args.process.0) c.requires.holds (taking (abort c.args.process.0) L refl (rw L.0 (omega arith)))).holds); p_value = missing_there c.in_ok-missing.ensures refl }
+call_off_any-moved-requires c = let L = c.abort.ensures in record { held = (_, (c.put.ensures c.args.shape _ (abort c.args.process.0) c.requires.holds (taking (abort c.args.process.0) L refl (rw L.0 (omega arith)))).holds); is_process = missing_there c.in_ok-missing.ensures refl }
 
 pub finish-requires : goal.finish-requires
 finish-requires c =

@@ -6,7 +6,7 @@ use Rattle.wakes.proofs.Aborting.{deaf, heard}
 use Rattle.wakes.proofs.aborts.call_off.Goals as goal
 
 pub abortable-requires : goal.abortable-requires
-abortable-requires c = c.requires.condition_value
+abortable-requires c = c.requires.is_condition
 
 pub get-allowed-requires : goal.get-allowed-requires
 get-allowed-requires c = (c.args.shape, abortable c.args.condition, c.requires.held, c.abortable.ensures)

@@ -24,7 +24,7 @@ still : {n : Shape} {new old : List ℕ} {s : State model} → new ≡ old → H
 still {n} {s = s} e = subst (λ (ws : List ℕ). Holds n ws s) (sym e)
 
 pub call_off-requires : goal.call_off-requires
-call_off-requires c = record { held = (c.requires.held.0, still c.loop-c.invariant.same c.requires.held.1); condition_value = bounds_inside c.args.shape.conditions c.loop-c.c (omega arith) c.loop-c-test.true; p_value = c.requires.p_value }
+call_off-requires c = record { held = (c.requires.held.0, still c.loop-c.invariant.same c.requires.held.1); is_condition = bounds_inside c.args.shape.conditions c.loop-c.c (omega arith) c.loop-c-test.true; is_process = c.requires.is_process }
 
 pub returns-then-call_off : goal.returns-then-call_off
 returns-then-call_off c s H =
