@@ -8,7 +8,7 @@ ghost use Rattle.ring.specs.Way.{to_come, Walks, Passed};
 use links::{link_of, next_of, points};
 
 // The records, the tail of the ring, and the process at which the walker stands.
-#[derive(Clone, Copy)]
+#[derive(Drop)]
 pub struct Walker<'a> {
     records: &'a [u16],
     tail: u16,
@@ -61,6 +61,7 @@ pub fn walk(records: &[u16], tail: u16, out: &mut [u16]) -> u16
     requires { (xs : List ℕ) × Ring records.now tail xs × (tail ≢ 0) × (length xs ≤ length out.old) }
     ensures { (xs : List ℕ) → Ring records.now tail xs → (result + 1 ≡ length xs) × (out.new ≡ take result xs ++ drop result out.old) }
 {
+    // the count is the answer
     let mut count: u16 = 0;
     for p in Walker::new(records, tail) {
         out[usize::from(count)] = p;
