@@ -2,7 +2,7 @@
 use Prim.Native.Nat.{ℕ, ◌+◌, ◌*◌, ◌/◌, ◌%◌, ◌≤◌, ◌<◌}
 use native.Mathlib.Decide.{ℕ_discrete}
 use native.Mathlib.Omega.{arith}
-use mathlib.Core.Path.{◌≡◌}
+use mathlib.Core.Path.{◌≡◌, ◌∙◌}
 use mathlib.Core.Bool.{true, false}
 use mathlib.Core.List.{List}
 use Rattle.std.proofs.lemmas.Bool.Decides.{nat_tests}
@@ -15,6 +15,10 @@ use Rattle.heads.specs.First.{Decides, Led, Runs}
 use Rattle.heads.specs.Heads.{bare, is_vacant, heading, head_at}
 
 -- ---- running
+
+-- the tail of ready has ten bits
+pub led_tail : (ws rs : List ℕ) → Led ws rs → get_or ws 5 0 / 8 % 1024 ≡ get_or ws 5 0 / 8
+led_tail ws rs L = elim (ℕ_discrete (get_or ws 5 0 / 8) 0) [ yes e ↦ omega arith | no n ↦ omega (arith, (L n).0.high) ]
 
 -- where t is read as the tail of ready and f comes after it, f is to run and not to be failed
 pub runs_first : (ws rs : List ℕ) (t f : ℕ) → Led ws rs → t ≡ get_or ws 5 0 / 8 % 1024 → (t ≡ 0 → ⊥) → f ≡ next rs t → get_or ws 4 0 ≡ f * 8 → Decides (eqb (bit_and (link rs f) 4) 0) (Runs ws rs)
@@ -30,7 +34,7 @@ runs_first ws rs t f L e n d w = elim (ℕ_discrete (bit_and (link rs f) 4) 0) [
     some x = n (omega arith)
 
     tail_is : t ≡ get_or ws 5 0 / 8
-    tail_is = let s = (L some).0.high in omega arith
+    tail_is = e ∙ led_tail ws rs L
 
 -- ---- a vacant queue: nobody holds the lock
 
