@@ -5,11 +5,13 @@ use mathlib.Core.Path.{◌≡◌, refl, sym, ap, ◌∙◌}
 use mathlib.Core.Bool.{true, false, and-false}
 use mathlib.Core.List.{List, ◌∷◌}
 use Rattle.std.proofs.Common.{None, Some}
+use Rattle.std.proofs.lemmas.Bool.Decides.{nat_tests}
 use lib.Bits.{bit_and, and_mask, and_high, and_block}
+use lib.Dec.{leb}
 use lib.ListN.{length}
 use borrow.Author.Tests.{eq-eqb, ne_eqb}
 use Rattle.links.specs.Link.{next, priority}
-use Rattle.members.specs.Walk.{is_fresh, fits_in, walked, ringed}
+use Rattle.members.specs.Walk.{is_idle, is_fresh, fits_in, walked, ringed}
 
 -- ---- whether a record fits
 
@@ -23,6 +25,11 @@ fixed_is f b =
     let m : bit_and (f % 8) 2 ≡ f % 8 / 2 % 2 * 2 = and_high (f % 8) 1 1 in
     let o : f % 8 / 2 % 2 ≡ f / 2 % 2 = omega arith in
     ap (λ x. bit_and x 65530) (sym g) ∙ d ∙ rw (h, few, m, o)
+
+-- of flags and a timer elsewhere, as one number
+pub idle_by : (f t : ℕ) → leb (t * 65536 + f) 1 ≡ is_idle f t
+unfolding is_idle
+idle_by f t = grind (arith, nat_tests)
 
 -- ---- the walk
 

@@ -7,7 +7,6 @@ use mathlib.Core.List.{List, ◌∷◌}
 use Rattle.std.proofs.Common.{Option, None, Some}
 use lib.Dec.{leb}
 use lib.ListN.{get_or}
-use borrow.Author.Tests.{not-true, not-false}
 use Rattle.model.specs.Queue.{member}
 use Rattle.links.specs.Link.{slot, link, next, priority}
 use Rattle.members.specs.Marks.{met_in, marked}
@@ -43,34 +42,34 @@ module _ (rs : List ℕ) (P k o t : ℕ) where
       unfolding is_fresh
       stale e ms' = told_none P ms' out (g.rest ∙ walk_stale rs P k o t (P - m) p b g.js e)
 
-      pub going_barred : (ms' : List ℕ) → not may ≡ true → Told P None ms' out
-      going_barred ms' e = stale (rw (← is_may, not-true may e)) ms'
+      pub going_barred : (ms' : List ℕ) → may ≡ false → Told P None ms' out
+      going_barred ms' e = stale (rw (← is_may, e)) ms'
 
       module _ (fit : Bool) (is_fit : fit ≡ fitting k (link rs p) (get_or rs (slot p + 1) 0) (get_or rs (slot p + 2) 0)) where
         unfit : fits_in rs k b p ≡ false → (ms' : List ℕ) → Told P None ms' out
         unfit e ms' = told_none P ms' out (g.rest ∙ walk_unfit rs P k o t (P - m) p b g.js e)
 
-        pub going_unfit : (ms' : List ℕ) → not fit ≡ true → Told P None ms' out
-        going_unfit ms' e = unfit (rw (← is_fit, not-true fit e)) ms'
+        pub going_unfit : (ms' : List ℕ) → fit ≡ false → Told P None ms' out
+        going_unfit ms' e = unfit (rw (← is_fit, e)) ms'
 
         module _ (low : Bool) (is_low : low ≡ leb (link rs p / 8192) b) where
-          pub going_rises : (ms' : List ℕ) → not low ≡ true → Told P None ms' out
-          going_rises ms' e = unfit (rw (← is_low, not-true low e, and-false)) ms'
+          pub going_rises : (ms' : List ℕ) → low ≡ false → Told P None ms' out
+          going_rises ms' e = unfit (rw (← is_low, e, and-false)) ms'
 
           module _ (new : Bool) (small : p < 1024) (is_new : new ≡ not (met_in ms p)) where
             old : not new ≡ member p g.js
             old = rw (is_new, not-not) (g.met.table.says p small)
 
-            pub going_met : (ms' : List ℕ) → not new ≡ true → Told P None ms' out
+            pub going_met : (ms' : List ℕ) → new ≡ false → Told P None ms' out
             going_met ms' e = stale (rw (← old, e, and-false)) ms'
 
-            module _ (e₁ : not may ≡ false) (e₂ : not fit ≡ false) (e₃ : not low ≡ false) (e₄ : not new ≡ false) (below : m < P) (ms' : List ℕ) (after : ms' ≡ marked ms p) where
+            module _ (e₁ : may ≡ true) (e₂ : fit ≡ true) (e₃ : low ≡ true) (e₄ : new ≡ true) (below : m < P) (ms' : List ℕ) (after : ms' ≡ marked ms p) where
               fresh : is_fresh P o p g.js ≡ true
               unfolding is_fresh
-              fresh = rw (← is_may, not-false may e₁, ← old, e₄)
+              fresh = rw (← is_may, e₁, ← old, e₄)
 
               fits : fits_in rs k b p ≡ true
-              fits = rw (← is_fit, not-false fit e₂, ← is_low, not-false low e₃)
+              fits = rw (← is_fit, e₂, ← is_low, e₃)
 
               more : Met P ms' (p ∷ g.js) (m + 1)
               more = let c = g.met.counts in record { table = rw after (table_marked ms g.js p small g.met.table); counts = omega arith; few = omega arith }

@@ -5,14 +5,13 @@ use native.Mathlib.Decide.{ℕ_discrete}
 use native.Mathlib.Omega.{arith}
 use borrow.Rule.Slice.PartMut.{mid_of}
 use mathlib.Core.Path.{◌≡◌, refl, sym, ◌∙◌, ap}
-use mathlib.Core.Bool.{Bool, true, false, not, cond}
+use mathlib.Core.Bool.{Bool, true, false, cond}
 use mathlib.Core.List.{List, [], ◌∷◌, ◌++◌}
 use Rattle.std.proofs.Common.{Option, None, Some}
 use Rattle.std.proofs.lemmas.Option.{none-some, same_Some}
 use lib.Bits.{bit_and, and_mask}
 use lib.ListN.{length, get_or, drop, length-drop}
 use lib.Seq.{get_or-drop}
-use borrow.Author.Tests.{not-true, not-false}
 use Rattle.model.specs.declared.Shape.{Shape}
 use Rattle.model.specs.Queue.{Queue, inside}
 use Rattle.model.specs.Queue.Queue.{ready, park, lock, condition}
@@ -40,8 +39,8 @@ module _ (P k w v : ℕ) (few : P < 1024) (ok : Bool) (tested : ok ≡ heading (
   unmasked : ok ≡ heading P k w v
   unmasked = let e : bit_and P 1023 ≡ P = and_mask P 10 ∙ omega arith in rw e at tested
 
-  pub tail_within : not ok ≡ false → w / 8 ≤ P
-  tail_within x = (heading_is P k w v (sym unmasked ∙ not-false ok x)).tail
+  pub tail_within : ok ≡ true → w / 8 ≤ P
+  tail_within x = (heading_is P k w v (sym unmasked ∙ x)).tail
 
 -- ---- a pass underway
 
@@ -91,15 +90,15 @@ module _ (hs rs : List ℕ) (P k : ℕ) where
     passed_held ms' z o = told_none P ms' _ (passed_stops (i + 1) n js₀ (omega arith) (here ∙ rw (← head_empty_held P k w v z o)))
 
     module _ (few : P < 1024) (ok : Bool) (tested : ok ≡ heading (bit_and P 1023) k w v) where
-      pub passed_odd : (ms' : List ℕ) → not ok ≡ true → Told P None ms' (passed hs rs P k n js₀)
+      pub passed_odd : (ms' : List ℕ) → ok ≡ false → Told P None ms' (passed hs rs P k n js₀)
       passed_odd ms' x =
-          let no : heading P k w v ≡ false = sym (unmasked P k w v few ok tested) ∙ not-true ok x in
+          let no : heading P k w v ≡ false = sym (unmasked P k w v few ok tested) ∙ x in
           told_none P ms' _ (passed_stops (i + 1) n js₀ (omega arith) (here ∙ rw no))
 
       -- past the test the holder o and the tail t, as they are read, are all that stands above the bits below them
-      module _ (x : not ok ≡ false) where
+      module _ (x : ok ≡ true) where
         accepted : heading P k w v ≡ true
-        accepted = sym (unmasked P k w v few ok tested) ∙ not-false ok x
+        accepted = sym (unmasked P k w v few ok tested) ∙ x
 
         module _ (o t : ℕ) (holder : o ≡ v / 8 % 1024) (tail : t ≡ w / 8 % 1024)
             (c : Option ℕ) (ms' : List ℕ) (told : (js : List ℕ) → Met P ms js m → Told P c ms' (ringed rs P k o t js)) where

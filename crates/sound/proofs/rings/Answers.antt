@@ -1,3 +1,4 @@
+-- `sound::rings` meets its contract: each queue is passed as `queued` passes it, or the pass breaks off there. Assumes nothing.
 use native.Mathlib.Omega.{arith}
 use mathlib.Core.Path.{refl, sym, ◌∙◌}
 use Rattle.heads.proofs.Steps.{head_within, holder_within}
@@ -21,17 +22,17 @@ pub returns-then-v-ne0 : goal.returns-then-v-ne0
 returns-then-v-ne0 c js is e T = passed_held _ _ _ _ _ _ _ _ c.head_at-at.ensures refl c.holder_word-v.ensures _ c.loop-i-test.true _ _ js (c.loop-i.invariant js is e T) _ (sym c.vacant.ensures ∙ c.if-vacant.true) c.if-v-ne0.true
 
 pub returns-then-not-in_order : goal.returns-then-not-in_order
-returns-then-not-in_order c js is e T = passed_odd _ _ _ _ _ _ _ _ c.head_at-at.ensures refl c.holder_word-v.ensures _ c.loop-i-test.true _ _ js (c.loop-i.invariant js is e T) (omega arith) _ c.in_order.ensures _ c.if-not-in_order.true-raw
+returns-then-not-in_order c js is e T = passed_odd _ _ _ _ _ _ _ _ c.head_at-at.ensures refl c.holder_word-v.ensures _ c.loop-i-test.true _ _ js (c.loop-i.invariant js is e T) (omega arith) _ c.in_order.ensures _ c.if-not-in_order.true
 
 pub walk-requires : goal.walk-requires
 walk-requires c =
-    let tail = tail_within c.args.roll.processes c.args.kind _ _ (omega arith) _ c.in_order.ensures c.if-not-in_order.false-raw in
+    let tail = tail_within c.args.roll.processes c.args.kind _ _ (omega arith) _ c.in_order.ensures c.if-not-in_order.false in
     omega (arith, tail)
 
 pub returns-in_err-found : goal.returns-in_err-found
 returns-in_err-found c js is e T =
     rw c.from_residual.ensures (
-    passed_broken _ _ _ _ _ _ _ _ c.head_at-at.ensures refl c.holder_word-v.ensures _ c.loop-i-test.true _ _ js (c.loop-i.invariant js is e T) (omega arith) _ c.in_order.ensures c.if-not-in_order.false-raw
+    passed_broken _ _ _ _ _ _ _ _ c.head_at-at.ensures refl c.holder_word-v.ensures _ c.loop-i-test.true _ _ js (c.loop-i.invariant js is e T) (omega arith) _ c.in_order.ensures c.if-not-in_order.false
     _ _ (c.from.ensures ∙ c.next_field.ensures) (c.from-else-vacant.ensures ∙ c.next_field-else-vacant.ensures) _ _ c.walk.ensures _ c.in_err-found.was)
 
 pub loop-i-preserved : goal.loop-i-preserved
@@ -40,7 +41,7 @@ loop-i-preserved c js is e T = elim c.if-vacant.branch [
       rw (w.marks-is, w.found-is) (passed_empty _ _ _ _ _ _ _ _ c.head_at-at.ensures refl c.holder_word-v.ensures _ c.loop-i-test.true _ _ js (c.loop-i.invariant js is e T) (sym c.vacant.ensures ∙ w.if-vacant.true) w.if-v-ne0.false)
   | else-vacant+else-not-in_order+in_ok-found w ↦
       rw (w.marks-is, w.found-is) (
-      passed_on _ _ _ _ _ _ _ _ c.head_at-at.ensures refl c.holder_word-v.ensures _ c.loop-i-test.true _ _ js (c.loop-i.invariant js is e T) (omega arith) _ w.in_order.ensures w.if-not-in_order.false-raw
+      passed_on _ _ _ _ _ _ _ _ c.head_at-at.ensures refl c.holder_word-v.ensures _ c.loop-i-test.true _ _ js (c.loop-i.invariant js is e T) (omega arith) _ w.in_order.ensures w.if-not-in_order.false
       _ _ (w.from.ensures ∙ w.next_field.ensures) (w.from-else-vacant.ensures ∙ w.next_field-else-vacant.ensures) _ _ w.walk.ensures _ w.in_ok-found.was)
 ]
 

@@ -1,4 +1,4 @@
--- `sound::rings` meets its contract. The invariant of its loop, for every list of the processes met before: the first i queues are passed, as those before `from` were.  Assumes nothing.
+-- `sound::rings` meets its contract. The invariant of its loop, for every list of the processes met before: the first i queues are passed, as those before `from` were. Assumes nothing.
 use Prim.Native.Nat.{ℕ}
 use mathlib.Core.Path.{◌≡◌}
 use mathlib.Core.List.{List}
