@@ -37,13 +37,12 @@ impl Player<'_> {
     {
         self.session.begin();
         for _ in 0..u64::MAX {
-            match self.turn(input, output) {
-                Some(0) => return,
-                Some(_) => {}
-                None => {
-                    let _ = errors.write_all(b"rehearse: standard input cannot be read\n");
-                    return;
-                }
+            let Some(n) = self.turn(input, output) else {
+                let _ = errors.write_all(b"rehearse: standard input cannot be read\n");
+                return;
+            };
+            if n == 0 {
+                return;
             }
         }
     }

@@ -9,10 +9,15 @@ loop-init g c = rw (← c.begin.ensures.same_area) (open_first (progress_of c.be
 pub loop-preserved : goal.loop-preserved
 loop-preserved g c =
     let session = c.turn.new.self.session in
-    open_next c.args.self.now.session.desk.area.now c.turn.new.self.chunk.now (told session) (progress_of c.loop.self.session) (progress_of session) c.loop.invariant c.in-Some.field-0
-    c.in-Some.field-0-test.1 (rw c.in-Some.is at c.turn.ensures)
+    open_next c.args.self.now.session.desk.area.now c.turn.new.self.chunk.now (told session) (progress_of c.loop.self.session) (progress_of session) c.loop.invariant c.in-Some.n
+    c.if-n-eq0.false (rw c.in-Some.is at c.turn.ensures)
 
-pub returns-in-Some-eq0 : goal.returns-in-Some-eq0
-returns-in-Some-eq0 g c =
+pub returns-then-n-eq0 : goal.returns-then-n-eq0
+returns-then-n-eq0 g c =
+    let session = c.turn.new.self.session in
+    read_left c.args.self.now.session.desk.area.now c.turn.new.self.chunk.now (told session) (progress_of c.loop.self.session) (progress_of session) c.loop.invariant c.turn.result c.turn.ensures
+
+pub returns-in_default : goal.returns-in_default
+returns-in_default g c =
     let session = c.turn.new.self.session in
     read_left c.args.self.now.session.desk.area.now c.turn.new.self.chunk.now (told session) (progress_of c.loop.self.session) (progress_of session) c.loop.invariant c.turn.result c.turn.ensures
