@@ -5,7 +5,7 @@ use mathlib.Core.List.{List, [], ◌∷◌, ◌++◌, append_assoc, append-nil}
 use native.Mathlib.Omega.{arith}
 use native.Mathlib.Numerals.{add-one}
 use native.Mathlib.Nat.{add-sub_cancel_left}
-use lib.ListN.{length, take, drop, set, drop_of_length-le, take-append-drop}
+use lib.ListN.{length, get_or, take, drop, set, drop_of_length-le, take-append-drop}
 use lib.Seq.{length-take-le, lt-length-set, drop-cons, get_or-set_same, drop-set-lt, take-set-lt, take-take, take-suc-set}
 use Rattle.print.specs.Print.{digits, width, field}
 
@@ -52,7 +52,14 @@ field_put old mid at k n b q h e =
     rw (add-one, take-suc-set mid (at + k) b h, e)
     (append_assoc (take at old) (digits k n) (b ∷ []) ∙ ap (λ (x : ℕ). take at old ++ (digits x n ++ (b ∷ []))) q)
 
--- six rows, each behind the one before
-pub six : (p0 p1 p2 p3 p4 p5 p6 f1 f2 f3 f4 f5 f6 : List ℕ) → p0 ≡ [] → p1 ≡ p0 ++ f1 → p2 ≡ p1 ++ f2 → p3 ≡ p2 ++ f3 → p4 ≡ p3 ++ f4 → p5 ≡ p4 ++ f5 → p6 ≡ p5 ++ f6 →
-    p6 ≡ f1 ++ (f2 ++ (f3 ++ (f4 ++ (f5 ++ f6))))
-six p0 p1 p2 p3 p4 p5 p6 f1 f2 f3 f4 f5 f6 e0 e1 e2 e3 e4 e5 e6 = rw (e6, e5, e4, e3, e2, e1, e0) (simp append_assoc)
+-- fields one behind the other, each a number and the byte after it
+abbrev pub fields : List (ℕ × ℕ) → List ℕ
+fields [] = []
+fields (p ∷ ps) = field p.0 p.1 ++ fields ps
+
+-- one field more
+pub fields_on : (ps : List (ℕ × ℕ)) (i : ℕ) (front : List ℕ) {new all : List ℕ} → i < length ps → new ≡ front ++ field (get_or ps i (0, 0)).0 (get_or ps i (0, 0)).1
+    → front ++ fields (drop i ps) ≡ all → new ++ fields (drop (i + 1) ps) ≡ all
+fields_on ps i front h put e =
+    let p = get_or ps i (0, 0) in
+    rw (put, add-one i) (append_assoc front (field p.0 p.1) (fields (drop (suc i) ps)) ∙ ap (λ (l : List ℕ). front ++ l) (sym (ap fields (drop-cons ps i (0, 0) h))) ∙ e)

@@ -9,6 +9,8 @@ use model::Answer;
 // How many bytes the longest line has.
 pub const LONGEST: usize = 36;
 
+// Numbers are printed by hand: `write!` into a slice promises how many bytes it writes, and not which.
+
 // How many digits a number has.
 fn digit_count(n: u16) -> usize
     ensures { (result ≡ width n) × (result ≤ 5) }
@@ -51,10 +53,17 @@ pub fn line(answer: Answer, out: &mut [u8]) -> usize
     requires { longest ≤ length out.old }
     ensures { (result ≤ length out.new) × (take result out.new ≡ printed answer) }
 {
-    let a = put_field(out, 0, answer.code, b' ');
-    let b = put_field(out, a, answer.running, b' ');
-    let c = put_field(out, b, answer.retry, b' ');
-    let d = put_field(out, c, answer.mark, b' ');
-    let e = put_field(out, d, answer.moved, b' ');
-    put_field(out, e, answer.ahead, b'\n')
+    let fields = [
+        (answer.code, b' '),
+        (answer.running, b' '),
+        (answer.retry, b' '),
+        (answer.mark, b' '),
+        (answer.moved, b' '),
+        (answer.ahead, b'\n'),
+    ];
+    let mut next = 0;
+    for (number, after) in fields {
+        next = put_field(out, next, number, after);
+    }
+    next
 }

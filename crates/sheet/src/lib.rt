@@ -26,6 +26,8 @@ const CONDITION: u16 = 3;
 
 // ---- what a row says
 
+// An area and its shape are passed side by side, and are no struct: `Held` has a state in it, and a ghost field takes only a fact with one proof.
+
 // The holder, where the queue is a lock's.
 fn holder_in(area: &[u16], shape: Shape, kind: u16, number: u16) -> u16
     requires held { Held shape area.now }
