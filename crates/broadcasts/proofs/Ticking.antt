@@ -31,7 +31,6 @@ use Rattle.area.specs.Holds.{Holds, Becomes, with, Gives}
 use Rattle.area.specs.Loose.{Loose}
 use Rattle.crowds.specs.Crowds.{swept, staying, Crowd, Woken, ringing}
 use Rattle.area.specs.Calls.{Does, woken}
-use Rattle.area.proofs.Puts.{becomes_none}
 use Rattle.area.proofs.Rings.{member_inside, queue_none}
 use Rattle.area.proofs.Records.{records_stand, rings_said}
 use Rattle.moves.proofs.Relinks.{lent}
@@ -206,11 +205,6 @@ module _ {n : Shape} {old mid : List ℕ} {s : State model} (H : Holds n old s) 
 
       stays_ready : staying s.fields time n.conditions s.queues ready ≡ s.queues ready
       stays_ready = stays_all v time ready ∙ filter_all (λ x. not (rings s.fields time x)) (s.queues ready) (λ x m. rw (still v time ready x refl m))
-
--- nobody rings
-pub none_ring : {n : Shape} {old : List ℕ} {s : State model} (now : ℕ) → Holds n old s → due n s.fields now ≡ []
-    → (0 ≡ length (due n s.fields now)) × Becomes n old old (woken (due n s.fields now) s)
-none_ring now H e = (rw e, rw e (becomes_none H))
 
 -- ---- whether somebody rings
 

@@ -41,6 +41,7 @@ fn sweep_all(area: &mut [u16], shape: Shape, time: u16)
 {
     let end = area::records_at(shape);
     let mut from = area::conditions_at(shape);
+    // not a `for` with the test in it: measured with 255 conditions, a Tick then takes 245 ns in place of 181
     while let Some(ahead) = next_waited(&area[from..end]) {
         crowds::sweep(area, shape, from + ahead, time);
         from += ahead + 1;

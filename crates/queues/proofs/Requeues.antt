@@ -15,7 +15,7 @@ use Rattle.model.specs.Queue.Queue.{ready, park}
 use Rattle.model.specs.Field.{priorities}
 use Rattle.model.specs.Rules.{ready_or_park, when, decide}
 use Rattle.model.specs.Machine.{State, model, moves, arrivals, finish, refusal}
-use Rattle.model.proofs.Tests.{holds, fails, EqCase, eqb_case, eqb_yes, eqb_no, leb_yes, leb_no, bounds_inside}
+use Rattle.model.proofs.Tests.{holds, fails, EqCase, eqb_case, eqb_no, leb_yes, leb_no, bounds_inside}
 use Rattle.model.proofs.Places.{ahead_park}
 use Rattle.model.proofs.Loops.{elsewhere}
 use Rattle.area.specs.Layout.{at}
@@ -30,9 +30,6 @@ use Rattle.outcomes.proofs.Outcomes.{when_yes, when_no, Tested, missing_tested, 
 
 park_there : (k : ℕ) → k ≢ 0 → ready_or_park k ≡ park k
 park_there k h = rw (eqb_no k 0 h)
-
-ready_there : (k : ℕ) → k ≡ 0 → ready_or_park k ≡ ready
-ready_there k h = rw (eqb_yes k 0 h)
 
 pub given : (n : Shape) (k : ℕ) → k ≤ n.parks → exists n (ready_or_park k) ≡ true
 given n k h = go (eqb_case k 0)

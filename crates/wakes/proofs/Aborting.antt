@@ -94,9 +94,9 @@ module _ {n : Shape} {old : List ℕ} {s : State model} (H : Holds n old s) (c v
       go true q = ap refuse (sym q)
       go false q = absurd (z q)
 
-  pub set_above : {a : Answer} → 1 < v → a ≡ refusal 7 → Does (SetAbortable c v) n old old s a
+  pub set_above : 1 < v → Does (SetAbortable c v) n old old s (refusal 7)
   unfolding decide
-  set_above h = refuses H (SetAbortable c v) 7 (when_yes 7 _ (rw (lt-ltb 1 v h, or-true)))
+  set_above h = refuses H (SetAbortable c v) 7 (when_yes 7 _ (rw (lt-ltb 1 v h, or-true))) refl
 
   pub set_done : {a : Answer} {mid new : List ℕ} → k ≡ 0 → v ≤ 1 → Becomes n old mid (with (abortable c) v s) → Gives n mid new a (finish model (put (abortable c) v s.fields) s.queues 0 0 0) → Does (SetAbortable c v) n old new s a
   unfolding decide

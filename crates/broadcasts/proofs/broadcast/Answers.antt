@@ -4,16 +4,10 @@ use Rattle.outcomes.proofs.Outcomes.{refusing, passed_on, calling_there}
 use Rattle.broadcasts.proofs.Crowding.{broadcast_refused, broadcast_all_lem}
 use Rattle.broadcasts.proofs.broadcast.Goals as goal
 
-pub running_of-running-requires : goal.running_of-running-requires
-running_of-running-requires c = (c.args.shape, (c.requires.state, c.requires.holds))
-
 pub returns-in_err-calling : goal.returns-in_err-calling
 returns-in_err-calling c s H v =
     let n = c.args.shape in
     broadcast_refused H c.args.condition (c.running_of-running.ensures n s H) c.in_err-calling.ensures (refusing _) (passed_on _ _ c.from_residual.ensures.1)
-
-pub condition_at-from-requires : goal.condition_at-from-requires
-condition_at-from-requires c = calling_there c.in_ok-calling.ensures refl
 
 pub wake_all-all-requires : goal.wake_all-all-requires
 wake_all-all-requires c = (c.args.condition, (c.requires.state, c.requires.holds), calling_there c.in_ok-calling.ensures refl, c.condition_at-from.ensures)

@@ -3,14 +3,8 @@ use Rattle.model.specs.Queue.Queue.{condition}
 use Rattle.broadcasts.proofs.Crowding.{sleepers_wake, sleepers_chain, sleepers_woken, nobody_woken}
 use Rattle.broadcasts.proofs.wake_all.Goals as goal
 
-pub first_in-first-requires : goal.first_in-first-requires
-first_in-first-requires c = let q = c.requires in record { held = q.1; is_queue = (condition q.0, q.2, q.3) }
-
 pub returns-then-first-eq0 : goal.returns-then-first-eq0
 returns-then-first-eq0 c s k H given here = nobody_woken H k (c.first_in-first.ensures s (condition k) H given here) c.if-first-eq0.true
-
-pub empty-last-requires : goal.empty-last-requires
-empty-last-requires c = let q = c.requires in record { held = q.1; is_queue = (condition q.0, q.2, q.3) }
 
 pub wake_chain-requires : goal.wake_chain-requires
 wake_chain-requires c =

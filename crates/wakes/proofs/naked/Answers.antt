@@ -22,9 +22,6 @@ returns-then-moved-ne0 c s H v =
     let w = c.wake_first-moved.ensures s H in
     naked_first H c.args.condition (missing_there c.in_ok-missing.ensures refl) w.0 c.if-moved-ne0.true w.1 (c.finish.ensures _ w.1.holds)
 
-pub wakeup-requires : goal.wakeup-requires
-wakeup-requires c = missing_there c.in_ok-missing.ensures refl
-
 pub put-requires : goal.put-requires
 put-requires c =
     let k = c.args.condition in

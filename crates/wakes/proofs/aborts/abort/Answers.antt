@@ -11,9 +11,6 @@ use Rattle.wakes.proofs.aborts.abort.Goals as goal
 pub returns-in_err-missing : goal.returns-in_err-missing
 returns-in_err-missing c s H v = abort_refused H c.args.process c.in_err-missing.ensures (refusing _) (passed_on _ _ c.from_residual.ensures.1)
 
-pub abort-requires : goal.abort-requires
-abort-requires c = missing_there c.in_ok-missing.ensures refl
-
 pub put-requires : goal.put-requires
 put-requires c =
     let L = c.abort.ensures in

@@ -5,17 +5,11 @@ use Rattle.moves.proofs.Tries.{did_not}
 use Rattle.wakes.proofs.Aborting.{deaf, heard}
 use Rattle.wakes.proofs.aborts.call_off.Goals as goal
 
-pub abortable-requires : goal.abortable-requires
-abortable-requires c = c.requires.is_condition
-
 pub get-allowed-requires : goal.get-allowed-requires
 get-allowed-requires c = (c.args.shape, abortable c.args.condition, c.requires.held, c.abortable.ensures)
 
 pub returns-then-allowed-eq0 : goal.returns-then-allowed-eq0
 returns-then-allowed-eq0 c s H = did_not (deaf (c.get-allowed.ensures c.args.shape s (abortable c.args.condition) H c.abortable.ensures) _ c.if-allowed-eq0.true) refl
-
-pub rouse-requires : goal.rouse-requires
-rouse-requires c = c.requires
 
 pub returns : goal.returns
 returns c s H = heard (c.get-allowed.ensures c.args.shape s (abortable c.args.condition) H c.abortable.ensures) c.if-allowed-eq0.false (c.rouse.ensures s H)

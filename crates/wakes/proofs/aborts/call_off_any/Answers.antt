@@ -10,14 +10,8 @@ use Rattle.area.specs.Holds.{Holds}
 use Rattle.wakes.proofs.Aborting.{heeds, any_passed, called_there, called_nowhere, all_passed}
 use Rattle.wakes.proofs.aborts.call_off_any.Goals as goal
 
-pub waits-requires : goal.waits-requires
-waits-requires c = c.requires
-
 pub returns-then-not-waits : goal.returns-then-not-waits
 returns-then-not-waits c s H = called_nowhere s c.args.p H refl (not_abortably c.args.shape s.fields s.queues c.args.p (sym (c.waits.ensures s H) ∙ c.if-not-waits.true))
-
-pub loop-c-init : goal.loop-c-init
-loop-c-init c = record { at_most = omega arith; same = refl; none = λ s H. refl }
 
 -- the area is as it was
 still : {n : Shape} {new old : List ℕ} {s : State model} → new ≡ old → Holds n old s → Holds n new s

@@ -3,7 +3,7 @@ use native.Mathlib.Omega.{arith}
 use mathlib.Core.Path.{refl}
 use Rattle.model.specs.Field.Field.{abortable}
 use Rattle.moves.proofs.Shared.{taking}
-use Rattle.outcomes.proofs.Outcomes.{refusing, passed_on, missing_there}
+use Rattle.outcomes.proofs.Outcomes.{refusing, passed_on}
 use Rattle.wakes.proofs.Aborting.{set_missing, set_above, set_done}
 use Rattle.wakes.proofs.aborts.set_abortable.Goals as goal
 
@@ -11,10 +11,7 @@ pub returns-in_err-missing : goal.returns-in_err-missing
 returns-in_err-missing c s H v = set_missing H c.args.condition c.args.value c.in_err-missing.ensures (refusing _) (passed_on _ _ c.from_residual.ensures.1)
 
 pub returns-then-value-gt1 : goal.returns-then-value-gt1
-returns-then-value-gt1 c s H v = set_above H c.args.condition c.args.value c.in_ok-missing.ensures c.if-value-gt1.true refl
-
-pub abortable-requires : goal.abortable-requires
-abortable-requires c = missing_there c.in_ok-missing.ensures refl
+returns-then-value-gt1 c s H v = set_above H c.args.condition c.args.value c.in_ok-missing.ensures c.if-value-gt1.true
 
 pub put-requires : goal.put-requires
 put-requires c =
