@@ -4,6 +4,7 @@ use native.Mathlib.Omega.{arith}
 use native.Mathlib.Nat.{zero-add}
 use native.Mathlib.Numerals.{add-one}
 use mathlib.Core.Path.{◌≡◌, refl, sym, ◌∙◌}
+use mathlib.Core.Logic.{◌≢◌}
 use mathlib.Core.Bool.{true, false≢true}
 use mathlib.Core.List.{List}
 use lib.ListN.{length, length-append}
@@ -11,20 +12,38 @@ use borrow.Author.Tests.{eqb-true}
 use Rattle.model.specs.declared.Shape.{Shape}
 use Rattle.model.specs.Queue.{Queue, number_of, queue_by, is_queue}
 use Rattle.model.specs.Queue.Queue.{ready, park, lock, condition}
-use Rattle.model.specs.Field.Field.{wakeup}
+use Rattle.model.specs.Field.Field.{holder, wakeup}
 use Rattle.model.specs.Machine.{State, model}
 use Rattle.model.proofs.Reports.{reports_whole}
 use Rattle.area.specs.Holds.{Holds}
 use Rattle.rows.specs.Printed.{Written}
 use Rattle.rows.proofs.Written.{written_then}
 use Rattle.rows.proofs.Numbers.{printed_length}
-use Rattle.sheet.specs.Sheet.{wakeup_of, row_of, row, rows, page, Sheets, Rows}
+use Rattle.sheet.specs.Sheet.{holder_of, wakeup_of, row_of, row, rows, page, Sheets, Rows}
 
 -- ---- the queue of a kind and a number
 
--- a condition's wakeup
-pub condition_wakeup : (s : State model) (kind i : ℕ) → kind ≡ 3 → s.fields (wakeup i) ≡ wakeup_of s (queue_by kind i)
-condition_wakeup s kind i e = rw e
+module _ (s : State model) where
+  pub lock_holder : (kind i : ℕ) → kind ≡ 2 → s.fields (holder i) ≡ holder_of s (queue_by kind i)
+  lock_holder kind i e = rw e
+
+  pub condition_wakeup : (kind i : ℕ) → kind ≡ 3 → s.fields (wakeup i) ≡ wakeup_of s (queue_by kind i)
+  condition_wakeup kind i e = rw e
+
+  -- no other queue has a holder
+  pub no_holder : (kind i : ℕ) → kind ≢ 2 → ◌≡◌ {A = ℕ} 0 (holder_of s (queue_by kind i))
+  no_holder zero i h = refl
+  no_holder (suc zero) i h = refl
+  no_holder (suc (suc zero)) i h = absurd (h refl)
+  no_holder (suc (suc (suc k))) i h = refl
+
+  -- no other queue has a wakeup; there is no kind above 3
+  pub no_wakeup : (n : Shape) (kind i : ℕ) → kind ≢ 3 → is_queue n kind i ≡ true → ◌≡◌ {A = ℕ} 0 (wakeup_of s (queue_by kind i))
+  no_wakeup n zero i h t = refl
+  no_wakeup n (suc zero) i h t = refl
+  no_wakeup n (suc (suc zero)) i h t = refl
+  no_wakeup n (suc (suc (suc zero))) i h t = absurd (h refl)
+  no_wakeup n (suc (suc (suc (suc k)))) i h t = absurd (false≢true t)
 
 -- its number; ready has the number 0
 pub number_said : (n : Shape) (kind i : ℕ) → is_queue n kind i ≡ true → i ≡ number_of (queue_by kind i)
@@ -43,7 +62,7 @@ rows_length s queue (suc m) = length-append (rows s queue m) (row s (queue (suc 
 
 module _ {n : Shape} {area : List ℕ} {queue : ℕ → Queue} {at : ℕ} {old : List ℕ} where
   -- one row more
-  rows_on : {m next : ℕ} {mid new : List ℕ} → Rows n area queue m at old mid next
+  pub rows_on : {m next : ℕ} {mid new : List ℕ} → Rows n area queue m at old mid next
       → ((s : State model) → Holds n area s → Written next (row s (queue (m + 1))) mid new) → Rows n area queue (m + 1) at old new (next + 29)
   rows_on {m} R w = record {
     next = omega (arith, R.next);
