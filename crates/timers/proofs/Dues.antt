@@ -9,7 +9,6 @@ use mathlib.Core.List.{List, [], ◌∷◌, ◌++◌, append-nil}
 use lib.Dec.{eqb}
 use lib.ListN.{length, get_or, drop, set, length-append, length-drop, length-map}
 use lib.Seq.{drop-cons, append_snoc, set_at}
-use Rattle.std.specs.Int.{from_bool}
 use Rattle.model.specs.declared.Shape.{Shape}
 use Rattle.model.specs.Queue.{inside, up_to, filter}
 use Rattle.model.specs.Machine.{State, model}
@@ -22,11 +21,6 @@ use Rattle.order.specs.Order.{Processes}
 use Rattle.timers.specs.Telling.{due_ones}
 
 -- ---- those of 1 to q who pass a test
-
--- one at most for each
-pub one_at_most : (b : Bool) → from_bool b ≤ 1
-one_at_most true = omega arith
-one_at_most false = omega arith
 
 module _ (t : ℕ → Bool) where
   -- of more there are no fewer
@@ -54,13 +48,12 @@ module _ (t : ℕ → Bool) where
         rw next (filter_append t (up_to (p - 1)) (suc (p - 1) ∷ []) ∙ rw (last, e, append-nil))
 
     -- who passes is counted
-    count_more : {m : ℕ} → t p ≡ true → m ≡ length (filter t (up_to (p - 1))) → m + 1 ≡ length (filter t (up_to (p + 1 - 1)))
+    pub count_more : {m : ℕ} → t p ≡ true → m ≡ length (filter t (up_to (p - 1))) → m + 1 ≡ length (filter t (up_to (p + 1 - 1)))
     count_more e k = rw (filter_more e, length-append) (omega arith)
 
     -- and who does not is not
-    pub count_on : {m : ℕ} (b : Bool) → b ≡ t p → m ≡ length (filter t (up_to (p - 1))) → m + from_bool b ≡ length (filter t (up_to (p + 1 - 1)))
-    count_on true e k = count_more (sym e) k
-    count_on false e k = rw (filter_same (sym e)) (omega arith)
+    pub count_same : {m : ℕ} → t p ≡ false → m ≡ length (filter t (up_to (p - 1))) → m ≡ length (filter t (up_to (p + 1 - 1)))
+    count_same e k = rw (filter_same e) k
 
 -- ---- those due
 

@@ -69,7 +69,11 @@ impl<'a> Reading<'a> {
         requires { inside self.now.shape.processes p ≡ true }
         ensures { (s : State model) → Shows self.now s → result ≡ inside ticks (left self.now.shape s p) }
     {
-        self.left_of(p).is_some_and(|left| left <= u32::from(ticks))
+        // With is_some_and a compiler asks twice whether p is armed.
+        match self.left_of(p) {
+            Some(left) => left <= u32::from(ticks),
+            None => false,
+        }
     }
 
     // How many are.
@@ -78,7 +82,9 @@ impl<'a> Reading<'a> {
     {
         let mut count: usize = 0;
         for p in 1..=self.shape.processes {
-            count += usize::from(self.is_due(ticks, p));
+            if self.is_due(ticks, p) {
+                count += 1;
+            }
         }
         count
     }
