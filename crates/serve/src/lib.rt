@@ -6,7 +6,7 @@ ghost use Rattle.script.specs.Line.{meaning};
 ghost use Rattle.print.specs.Print.{longest};
 ghost use Rattle.serve.specs.Serve.{Serves};
 
-use script::Parsed;
+use script::Line;
 
 // One whole line: its call is performed, and its answer's line put at the front of `out`.
 pub fn serve(
@@ -23,15 +23,15 @@ pub fn serve(
     ensures serves { Serves (meaning line.now) area.old area.new (take result out.new) }
 {
     match script::parse(line, table, bytes) {
-        Parsed::Call(call) => {
+        Some(Line::Call(call)) => {
             let answer = monitor::perform(area, call);
             print::line(answer, out)
         }
-        Parsed::Start(shape, count) => {
+        Some(Line::Start(shape, count)) => {
             let answer = start::start(area, shape, &bytes[..count]);
             print::line(answer, out)
         }
-        Parsed::Nothing => {
+        None => {
             out[0] = b'?';
             out[1] = b'\n';
             2
