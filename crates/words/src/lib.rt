@@ -49,21 +49,19 @@ pub fn equal(a: &[u8], b: &[u8]) -> bool
 }
 
 // The numbers after the word that ends at `from`, put into `table`: how many they are, where each is one.
-#[tactic(auto, using(crate::proofs::After::after_on, crate::proofs::After::put_on))]
 pub fn numbers(line: &[u8], from: usize, table: &mut [u16]) -> Option<usize>
     requires from_within { from ≤ length line.now }
     requires short_line { length line.now ≤ 8192 }
     requires numbers_fit { 8192 ≤ length table.old }
     ensures { Reads result table.new (after (drop from line.now)) }
 {
-    let mut at = from;
+    let mut rest = &line[from..];
     let mut count: usize = 0;
-    while at < line.len() {
-        let start = at + 1;
-        let end = word_end(line, start);
-        table[count] = value(&line[start..end])?;
+    while let Some((_, words)) = rest.split_first() {
+        let (word, others) = words.split_at(until_space(words));
+        table[count] = value(word)?;
         count += 1;
-        at = end;
+        rest = others;
     }
     Some(count)
 }
