@@ -7,9 +7,7 @@ use mathlib.Core.List.{List, [], ◌∷◌, ◌++◌}
 use Rattle.std.proofs.Common.{Option, None, Some, Fits}
 use mir.Syntax.{w16}
 use Rattle.std.proofs.lemmas.Option.{none-some, same_Some}
-use lib.Dec.{eqb}
 use lib.ListN.{length, get_or}
-use borrow.Author.Tests.{ne_eqb}
 use Rattle.model.specs.declared.Shape.{Shape}
 use Rattle.model.specs.Queue.{Queue, inside, bit, exists, member, count, All}
 use Rattle.model.specs.Queue.Queue.{ready}
@@ -65,11 +63,6 @@ total_inside ws x (q ∷ qs) v i = let a = go (member x (reading ws q)) refl in 
     go true m =
         let k = members_all (Member (records (shape_of ws) ws) (get_or ws 0 0) (kind_of q) (holder_word ws q / 8)) (reading ws q) v.0.ring.members x m in
         absurd (true≢false (sym k.within ∙ i))
-
--- past the passes: the tail of ready and who comes after it are processes, and what is left to ask is whether running is in order
-record Past (ws : List ℕ) : Type 0 where
-  led : (get_or ws 5 0 / 8 ≡ 0 → ⊥) → (inside (get_or ws 0 0) (get_or ws 5 0 / 8) ≡ true) × (inside (get_or ws 0 0) (links.next (records (shape_of ws) ws) (get_or ws 5 0 / 8)) ≡ true)
-  decided : (b : Bool) → Decides b (Runs ws (records (shape_of ws) ws)) → Judged ws b
 
 module _ (ws : List ℕ) (small : Words ws) where
   abbrev P : ℕ
@@ -166,15 +159,14 @@ module _ (ws : List ℕ) (small : Words ws) where
           uneven : (m₃ ≡ P → ⊥) → Sound ws → ⊥
           uneven z S = let k = complete S in z (l₃.met.counts ∙ (ap length (same_Some l₃.js k.left (sym w ∙ k.is)) ∙ k.every_one))
 
-          finished : m₃ ≡ P → Past ws
-          finished f = record {
-            led = led ws (in_all (Visited ws) all (passes C l₃.js w).each ready (every_in (shape_of ws) ready refl));
-            decided = go;
-          }
-            where
-              go : (b : Bool) → Decides b (Runs ws (records (shape_of ws) ws)) → Judged ws b
-              go true u = ((λ e. accepted C u l₃.js w (sym l₃.met.counts ∙ f)), λ S. refl)
-              go false n = refuses ws (unready n)
+          -- the tail of ready and who comes after it are processes
+          ready_led : (get_or ws 5 0 / 8 ≡ 0 → ⊥) → (inside (get_or ws 0 0) (get_or ws 5 0 / 8) ≡ true) × (inside (get_or ws 0 0) (links.next (records (shape_of ws) ws) (get_or ws 5 0 / 8)) ≡ true)
+          ready_led = led ws (in_all (Visited ws) all (passes C l₃.js w).each ready (every_in (shape_of ws) ready refl))
+
+          -- what is left to ask is whether running is in order
+          decided : m₃ ≡ P → (b : Bool) → Decides b (Runs ws (records (shape_of ws) ws)) → Judged ws b
+          decided f true u = ((λ e. accepted C u l₃.js w (sym l₃.met.counts ∙ f)), λ S. refl)
+          decided f false n = refuses ws (unready n)
 
 -- ---- the answers of the code, which lends itself all of the words and then parts of them
 
@@ -229,17 +221,14 @@ module _ (words : List ℕ) (low : (i : ℕ) → Fits w16 (get_or words i 0)) (b
           pub says_3 : c₃ ≡ None → Judged words false
           says_3 z = no (broken_3 ws small counts _ _ u₁ _ n₁ _ _ u₂ _ n₂ _ _ u₃ z)
 
-          -- all are passed: the number met is held against q, that of the processes
-          module _ {m₃ : ℕ} (n₃ : c₃ ≡ Some m₃) {q : ℕ} (f : q ≡ n.processes) where
-            pub says_uneven : (m₃ ≡ q → ⊥) → Judged words (eqb m₃ q)
-            says_uneven z = rw (ne_eqb m₃ q z) (no (uneven ws small counts _ _ u₁ _ n₁ _ _ u₂ _ n₂ _ _ u₃ _ n₃ (λ y. z (y ∙ sym (f ∙ lent_count ws e there)))))
+          module _ {m₃ : ℕ} (n₃ : c₃ ≡ Some m₃) where
+            pub says_led : (6 ≤ length ws) × Led ws (from ws r)
+            says_led = lent_led ws e there counts (ready_led ws small counts _ _ u₁ _ n₁ _ _ u₂ _ n₂ _ _ u₃ _ n₃)
 
-            module _ (y : m₃ ≡ q) where
-              past : Past ws
-              past = finished ws small counts _ _ u₁ _ n₁ _ _ u₂ _ n₂ _ _ u₃ _ n₃ (y ∙ (f ∙ lent_count ws e there))
+            -- the number met is held against q, that of the processes
+            module _ {q : ℕ} (f : q ≡ n.processes) where
+              pub says_uneven : (b : Bool) → b ≡ false → (m₃ ≡ q → ⊥) → Judged words b
+              says_uneven b y z = rw y (no (uneven ws small counts _ _ u₁ _ n₁ _ _ u₂ _ n₂ _ _ u₃ _ n₃ (λ k. z (k ∙ sym (f ∙ lent_count ws e there)))))
 
-              pub says_led : (6 ≤ length ws) × Led ws (from ws r)
-              says_led = lent_led ws e there counts past.led
-
-              pub says_runs : (b : Bool) → Decides b (Runs ws (from ws r)) → Judged words b
-              says_runs b h = whole words b (past.decided b (lent_runs ws e there b h))
+              pub says_runs : m₃ ≡ q → (b : Bool) → Decides b (Runs ws (from ws r)) → Judged words b
+              says_runs y b h = whole words b (decided ws small counts _ _ u₁ _ n₁ _ _ u₂ _ n₂ _ _ u₃ _ n₃ (y ∙ (f ∙ lent_count ws e there)) b (lent_runs ws e there b h))

@@ -1,6 +1,7 @@
 -- `sound::sound` meets its contract: past its tests the counts, the three passes and running are what `Check` asks for, and each way out before the end
 -- contradicts a clause of soundness. Assumes nothing.
 use native.Mathlib.Omega.{arith}
+use borrow.Author.Rules.{rules}
 use mathlib.Core.Path.{refl}
 use Rattle.sound.proofs.Check.{says_uncounted, says_within, says_1, says_2, says_3, says_uneven, says_led, says_runs}
 use Rattle.sound.proofs.sound.Goals as goal
@@ -31,10 +32,10 @@ pub returns-in_default-rings-2 : goal.returns-in_default-rings-2
 returns-in_default-rings-2 c = says_3 c.args.words.now c.type_inv.words _ c.counted.ensures c.if-not-counted.false c.shape_of-shape.ensures c.records_at-first_record.ensures _ _ (rw c.from.ensures at c.plain.ensures) c.in-Some.is c.conditions_at-first_condition.ensures _ _ (rw c.from-2.ensures at c.rings.ensures) c.in-Some-rings.is c.locks_at-first_lock.ensures _ _ (rw c.from-3.ensures at c.rings-2.ensures) c.in_default-rings-2.is
 
 pub runs-requires : goal.runs-requires
-runs-requires c = says_led c.args.words.now c.type_inv.words _ c.counted.ensures c.if-not-counted.false c.shape_of-shape.ensures c.records_at-first_record.ensures _ _ (rw c.from.ensures at c.plain.ensures) c.in-Some.is c.conditions_at-first_condition.ensures _ _ (rw c.from-2.ensures at c.rings.ensures) c.in-Some-rings.is c.locks_at-first_lock.ensures _ _ (rw c.from-3.ensures at c.rings-2.ensures) c.in-Some-rings-2.is c.from-4.ensures c.if-all-from.true
-
-pub returns-then-all-from : goal.returns-then-all-from
-returns-then-all-from c = says_runs c.args.words.now c.type_inv.words _ c.counted.ensures c.if-not-counted.false c.shape_of-shape.ensures c.records_at-first_record.ensures _ _ (rw c.from.ensures at c.plain.ensures) c.in-Some.is c.conditions_at-first_condition.ensures _ _ (rw c.from-2.ensures at c.rings.ensures) c.in-Some-rings.is c.locks_at-first_lock.ensures _ _ (rw c.from-3.ensures at c.rings-2.ensures) c.in-Some-rings-2.is c.from-4.ensures c.if-all-from.true c.runs.result c.runs.ensures
+runs-requires c = says_led c.args.words.now c.type_inv.words _ c.counted.ensures c.if-not-counted.false c.shape_of-shape.ensures c.records_at-first_record.ensures _ _ (rw c.from.ensures at c.plain.ensures) c.in-Some.is c.conditions_at-first_condition.ensures _ _ (rw c.from-2.ensures at c.rings.ensures) c.in-Some-rings.is c.locks_at-first_lock.ensures _ _ (rw c.from-3.ensures at c.rings-2.ensures) c.in-Some-rings-2.is
 
 pub returns-else-all-from : goal.returns-else-all-from
-returns-else-all-from c = says_uneven c.args.words.now c.type_inv.words _ c.counted.ensures c.if-not-counted.false c.shape_of-shape.ensures c.records_at-first_record.ensures _ _ (rw c.from.ensures at c.plain.ensures) c.in-Some.is c.conditions_at-first_condition.ensures _ _ (rw c.from-2.ensures at c.rings.ensures) c.in-Some-rings.is c.locks_at-first_lock.ensures _ _ (rw c.from-3.ensures at c.rings-2.ensures) c.in-Some-rings-2.is c.from-4.ensures c.if-all-from.false
+returns-else-all-from c = says_uneven c.args.words.now c.type_inv.words _ c.counted.ensures c.if-not-counted.false c.shape_of-shape.ensures c.records_at-first_record.ensures _ _ (rw c.from.ensures at c.plain.ensures) c.in-Some.is c.conditions_at-first_condition.ensures _ _ (rw c.from-2.ensures at c.rings.ensures) c.in-Some-rings.is c.locks_at-first_lock.ensures _ _ (rw c.from-3.ensures at c.rings-2.ensures) c.in-Some-rings-2.is c.from-4.ensures _ (search rules) (λ y. omega arith)
+
+pub returns-then-all-from : goal.returns-then-all-from
+returns-then-all-from c = says_runs c.args.words.now c.type_inv.words _ c.counted.ensures c.if-not-counted.false c.shape_of-shape.ensures c.records_at-first_record.ensures _ _ (rw c.from.ensures at c.plain.ensures) c.in-Some.is c.conditions_at-first_condition.ensures _ _ (rw c.from-2.ensures at c.rings.ensures) c.in-Some-rings.is c.locks_at-first_lock.ensures _ _ (rw c.from-3.ensures at c.rings-2.ensures) c.in-Some-rings-2.is c.from-4.ensures (omega arith) c.runs.result c.runs.ensures
