@@ -124,7 +124,8 @@ fn with_part(word: u16, unit: u16, span: u32, value: u16) -> u16
     ((high | low) + u32::from(value) * u32::from(unit)) as u16
 }
 
-// ---- reads and writes
+// ---- reads and writes; that a field is 0 for nobody is the state's (`s.fields`), so a reader answers a number.
+// An area and its counts stay two parameters, here and above: a struct of both would spare a contract `Held`, ask in its place that counts and slice are the same behind its `&mut`, and shared reads would need another.
 
 // Who runs, 0 for nobody.
 pub fn running_of(area: &[u16]) -> u16

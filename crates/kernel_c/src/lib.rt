@@ -1,4 +1,4 @@
-// The static library for C, libkernel_c.a: each export is the function of the crate kernel that has its name, and promises the same. Assumes nothing.
+// The static library for C, libkernel_c.a: each export is the function of the crate kernel that has its name, and promises the same; the functions are not here, since no crate stands on a static library. Assumes nothing.
 #![tactic(auto)]
 
 ghost use Rattle.std.specs.Prelude.{ℕ, List};

@@ -70,7 +70,7 @@ pub enum Call {
     },
 }
 
-// What Start and each of the twelve calls answer. Code 0 accepts; a refusal has zeros beside its code. The code stands amidst the others: four zeros side by side a compiler writes as one number, and then it takes every answer apart again.
+// What Start and each of the twelve calls answer. Code 0 accepts; a refusal has zeros beside its code, a number and no Result, since so it crosses to C (`fields_of`). The code stands amidst the others: four zeros side by side a compiler writes as one number, and then it takes every answer apart again.
 #[derive(Clone, Copy)]
 pub struct Answer {
     pub running: u16,
@@ -81,14 +81,14 @@ pub struct Answer {
     pub ahead: u16,
 }
 
-// What a read into a lent buffer answers: its code, and how much it wrote there.
+// What a read into a lent buffer answers: its code, and how much it wrote there; so it crosses to C.
 #[derive(Clone, Copy)]
 pub struct Report {
     pub code: u16,
     pub count: u16,
 }
 
-// Why a call is refused; the codes are 01's.
+// Why a call is refused: 01's codes by name, from 1.
 #[derive(Clone, Copy)]
 pub enum Refusal {
     // The area is not sound.

@@ -17,7 +17,7 @@ ghost use Rattle.area.specs.Rings.{Leaves, Joins, Relinked, ranks};
 use model::Shape;
 use ring::Arrival;
 
-// ---- reads
+// ---- reads; a process is 0 where there is none, as `first` and `last` have it, and the kind is a number, C's own
 
 // Whether a number is one of 1 to `most`.
 fn inside(most: u16, number: u16) -> bool

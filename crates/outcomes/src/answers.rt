@@ -8,7 +8,7 @@ ghost use Rattle.area.specs.Holds.{Holds, Held, Gives};
 use crate::dispatch;
 use model::{Answer, Refusal, Report, Shape};
 
-// A refusal: its code, and zeros.
+// A refusal: its code, and zeros; of any number, as its contract has it.
 pub fn refusal(code: u16) -> Answer
     ensures { result ≡ machine.refusal code }
 {

@@ -4,7 +4,7 @@
 ghost use Rattle.std.specs.Prelude.{◌≡◌, List, ◌++◌, ℕ, ◌+◌, ◌≤◌, length, take, drop};
 ghost use Rattle.rows.specs.Printed.{spaces, aligned, name, label, printed, Written};
 
-// What the row of a queue says; what the queue does not have is 0. Kinds are List's: 0 ready, 1 park, 2 lock, 3 condition.
+// What the row of a queue says; what the queue does not have is 0. Kinds are List's, as C has them: 0 ready, 1 park, 2 lock, 3 condition.
 #[derive(Clone, Copy)]
 pub struct Row {
     pub kind: u16,

@@ -16,7 +16,7 @@ use area::places;
 use model::{Refusal, Shape, Ticks};
 use std::marker::Model;
 
-// What is answered to who is the nearest: the code, the process, its ticks left. No process where nobody is armed.
+// What is answered to who is the nearest: the code, the process, its ticks left; so it crosses to C. No process where nobody is armed.
 #[derive(Clone, Copy)]
 pub struct Earliest {
     pub code: u32,
