@@ -88,14 +88,6 @@ module _ (room line : List ℕ) (fill : ℕ) (k : take fill room ≡ take (lengt
     | no l ↦ ap meaning (k ∙ take_all (length room) line (omega arith))
   ]
 
-  -- nothing is kept of an empty line alone
-  pub kept_none : 0 < length room → fill ≡ 0 → line ≡ []
-  kept_none h z = empty line (ap length k)
-    where
-      empty : (o : List ℕ) → length (take fill room) ≡ length (take (length room) o) → o ≡ []
-      empty [] e = refl
-      empty (b ∷ bs) e = let w : ⊥ = omega (arith, rw z at e, length-take (length room) (b ∷ bs)) in absurd w
-
   pub kept_some : 0 < fill → fill ≤ length room → last line ≡ line ∷ []
   kept_some h l = full line (ap length k)
     where

@@ -6,15 +6,15 @@ use mathlib.Core.Path.{◌≡◌, refl, sym, ap, ◌∙◌, subst}
 use mathlib.Core.Logic.{◌≢◌}
 use Rattle.std.specs.Prelude.{Some}
 use mathlib.Core.List.{List, [], ◌∷◌, ◌++◌, append_assoc, append-nil}
-use lib.ListN.{length, get_or, take, drop, set, length-take}
+use lib.ListN.{length, get_or, take, set}
 use lib.Seq.{length-take-le, take_all, take-nil, take-suc, take-append-le, take-append-add}
-use borrow.Rule.Slice.PartMut.{mid_of, post_of, put_mid}
+use borrow.Rule.Slice.PartMut.{post_of, put_mid}
 use Rattle.model.specs.Run.Run.{none, then}
 use Rattle.model.proofs.Runs.{run_append}
 use Rattle.script.specs.Line.{Meaning, meaning}
 use Rattle.serve.specs.Serve.{Serves}
 use Rattle.lines.specs.Lines.{ended, rest, last, joined, Answered, Puts, Progress, progress, After, Feeds, Closes, TakesIn}
-use Rattle.lines.proofs.Cuts.{ended_byte, rest_byte, ended_newline, rest_newline, joined_append, kept_byte, kept_over, kept_meaning, kept_none, kept_some}
+use Rattle.lines.proofs.Cuts.{ended_byte, rest_byte, ended_newline, rest_newline, joined_append, kept_byte, kept_over, kept_meaning, kept_some}
 
 -- ---- parts of a list
 
@@ -24,10 +24,6 @@ take_min n xs = elim (dec_lt (length xs) n) [
   | yes h ↦ let e : min n (length xs) ≡ length xs = omega arith in ap (λ (m : ℕ). take m xs) e ∙ take_all (length xs) xs (omega arith) ∙ sym (take_all n xs (omega arith))
   | no h ↦ let e : min n (length xs) ≡ n = omega arith in ap (λ (m : ℕ). take m xs) e
 ]
-
--- a part of a list of k, from a on, has at most k
-pub part_long : (a k : ℕ) (xs : List ℕ) → length (mid_of a k xs) ≤ k
-part_long a k xs = omega (arith, length-take k (drop a xs))
 
 -- what was put at the front of the part stands behind what stood before it
 pub part_front : (a k n : ℕ) (xs ys : List ℕ) → a ≤ length xs → n ≤ length ys → take (a + n) (put_mid a k xs ys) ≡ take a xs ++ take n ys
@@ -73,9 +69,6 @@ module _ {begun input told line area : List ℕ} {fill : ℕ} (A : After begun i
 
 -- ---- a piece, byte by byte
 
-pub feeds_none : {h : Progress} → Feeds [] h h []
-feeds_none {h} begun input told A = subst (λ (i : List ℕ). After begun i h (told ++ [])) (sym (append-nil input)) (subst (After begun input h) (sym (append-nil told)) A)
-
 module _ {h₀ : Progress} {xs line area out : List ℕ} {fill : ℕ} (F : Feeds xs h₀ (progress line fill area) out) (b : ℕ) where
   pub feeds_byte : b ≢ 10 → fill < length line → Feeds (xs ++ (b ∷ [])) h₀ (progress (set line fill b) (fill + 1) area) out
   feeds_byte e h begun input told A =
@@ -99,11 +92,6 @@ feeds_on piece i {h} {h'} {out} l F =
 -- ---- the end of the input
 
 module _ (line area : List ℕ) (fill : ℕ) where
-  pub closes_none : fill ≡ 0 → 0 < length line → Closes (progress line fill area) (progress line fill area) []
-  closes_none z h begun input told A =
-      subst (Answered (ended [] input ++ last (rest [] input)) begun area) (sym (append-nil told))
-      (subst (λ (ls : List (List ℕ)). Answered ls begun area told) (sym (ap (λ (o : List ℕ). ended [] input ++ last o) (kept_none line (rest [] input) fill A.kept h z) ∙ append-nil (ended [] input))) A.answered)
-
   pub closes_some : (h' : Progress) (out : List ℕ) → 0 < fill → fill ≤ length line → 8192 < length line → Puts (take fill line) area h'.area [] out → Closes (progress line fill area) h' out
   closes_some h' out h l k (o, S, d) begun input told A =
       let new = h'.area in

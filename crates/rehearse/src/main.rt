@@ -6,7 +6,7 @@ ghost use Rattle.print.specs.Print.{longest};
 ghost use Rattle.lines.specs.Lines.{TakesIn, Rehearsed};
 ghost use Rattle.lines.specs.Session.{progress_of, told};
 
-use lines::{Buffer, Session};
+use lines::Session;
 use serve::Desk;
 use std::io::{Read, Write};
 
