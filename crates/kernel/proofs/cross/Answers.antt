@@ -3,4 +3,4 @@ use Rattle.kernel.proofs.Packing.{carried}
 use Rattle.kernel.proofs.cross.Goals as goal
 
 pub returns : goal.returns
-returns c = carried c.requires.3 c.pack.ensures
+returns c = carried c.requires.3 (rw c.answer.ensures at c.pack.ensures)

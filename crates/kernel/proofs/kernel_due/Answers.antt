@@ -3,4 +3,4 @@ use Rattle.kernel.proofs.Packing.{dues}
 use Rattle.kernel.proofs.kernel_due.Goals as goal
 
 pub returns : goal.returns
-returns c = dues _ c.due.ensures c.pack_report.ensures
+returns c = dues _ c.due.ensures (rw c.report.ensures at c.pack_report.ensures)

@@ -3,4 +3,4 @@ use Rattle.kernel.proofs.Packing.{pages}
 use Rattle.kernel.proofs.kernel_sheet.Goals as goal
 
 pub returns : goal.returns
-returns c = pages c.sheet.ensures c.pack_report.ensures
+returns c = pages c.sheet.ensures (rw c.report.ensures at c.pack_report.ensures)

@@ -3,4 +3,4 @@ use Rattle.kernel.proofs.Packing.{begins}
 use Rattle.kernel.proofs.kernel_start.Goals as goal
 
 pub returns : goal.returns
-returns c = begins c.start.ensures c.pack.ensures
+returns c = begins c.start.ensures (rw c.answer.ensures at c.pack.ensures)
