@@ -89,12 +89,7 @@ pub fn kernel_naked(area: &mut [u16], condition: u16) -> u64
     cross(monitor::naked(area, condition))
 }
 
-pub fn kernel_requeue(
-    area: &mut [u16],
-    source: u16,
-    destination: u16,
-    process: u16,
-) -> u64
+pub fn kernel_requeue(area: &mut [u16], source: u16, destination: u16, process: u16) -> u64
     ensures { Crosses (Requeue source destination (record { 0 = process })) area.old area.new result }
 {
     cross(monitor::requeue(area, source, destination, Process(process)))

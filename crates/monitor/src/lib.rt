@@ -51,7 +51,12 @@ pub fn naked(area: &mut [u16], condition: u16) -> Result<Answer, Refusal>
     wakes::naked(area, shape, condition)
 }
 
-pub fn requeue(area: &mut [u16], source: u16, destination: u16, process: Process) -> Result<Answer, Refusal>
+pub fn requeue(
+    area: &mut [u16],
+    source: u16,
+    destination: u16,
+    process: Process,
+) -> Result<Answer, Refusal>
     ensures { Performs (Requeue source destination process) area.old area.new (answer_in result) }
 {
     let shape = sound::shape_of(area)?;

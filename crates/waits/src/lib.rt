@@ -42,7 +42,13 @@ fn sleep(area: &mut [u16], shape: Shape, condition: u16, p: u16, ticks: Ticks) -
     moves::queue(area, base, to, p, 1)
 }
 
-pub fn wait(area: &mut [u16], shape: Shape, lock: u16, condition: u16, ticks: Ticks) -> Result<Answer, Refusal>
+pub fn wait(
+    area: &mut [u16],
+    shape: Shape,
+    lock: u16,
+    condition: u16,
+    ticks: Ticks,
+) -> Result<Answer, Refusal>
     requires { Stands shape area.old }
     ensures { (s : State model) → Holds shape area.old s → Valid shape s → Does (Wait lock condition ticks) shape area.old area.new s (answer_in result) }
 {
