@@ -1,20 +1,21 @@
--- What a byte, a newline and the end of the input make of the progress so far, over all that was fed before. Assumes nothing.
-use Prim.Native.Nat.{ℕ, zero, suc, ◌+◌, ◌≤◌, ◌<◌, min}
+-- What bytes without a newline, a newline and the end of the input make of the progress so far, over all that was fed before. Assumes nothing.
+use Prim.Native.Nat.{ℕ, zero, suc, ◌+◌, ◌-◌, ◌≤◌, ◌<◌, min}
 use native.Mathlib.Decide.{dec_lt}
 use native.Mathlib.Omega.{arith}
 use mathlib.Core.Path.{◌≡◌, refl, sym, ap, ◌∙◌, subst}
 use mathlib.Core.Logic.{◌≢◌}
 use Rattle.std.specs.Prelude.{Some}
 use mathlib.Core.List.{List, [], ◌∷◌, ◌++◌, append_assoc, append-nil}
-use lib.ListN.{length, get_or, take, set}
+use lib.ListN.{length, get_or, take, drop}
 use lib.Seq.{length-take-le, take_all, take-nil, take-suc, take-append-le, take-append-add}
 use borrow.Rule.Slice.PartMut.{post_of, put_mid}
+use Rattle.std.proofs.lemmas.List.{take-append-drop}
 use Rattle.model.specs.Run.Run.{none, then}
 use Rattle.model.proofs.Runs.{run_append}
 use Rattle.script.specs.Line.{Meaning, meaning}
 use Rattle.serve.specs.Serve.{Serves}
 use Rattle.lines.specs.Lines.{ended, rest, last, joined, Answered, Puts, Progress, progress, After, Feeds, Closes, TakesIn}
-use Rattle.lines.proofs.Cuts.{ended_byte, rest_byte, ended_newline, rest_newline, joined_append, kept_byte, kept_over, kept_meaning, kept_some}
+use Rattle.lines.proofs.Cuts.{Plain, ended_plain, rest_plain, ended_newline, rest_newline, joined_append, kept_more, kept_meaning, kept_some}
 
 -- ---- parts of a list
 
@@ -31,6 +32,14 @@ part_front a k n xs ys h l =
     subst (λ (m : ℕ). take (m + n) (put_mid a k xs ys) ≡ take a xs ++ take n ys) (length-take-le a xs h)
     (take-append-add (take a xs) (ys ++ post_of a k xs) n ∙ ap (λ (zs : List ℕ). take a xs ++ zs) (take-append-le n ys (post_of a k xs) l))
 
+-- as many are put behind those that are there as there is room for
+pub filled : (fill n : ℕ) (room bytes : List ℕ) → n ≡ min (length bytes) (length room - fill) → fill ≤ length room → take fill room ++ take n bytes ≡ take (length room) (take fill room ++ bytes)
+filled fill n room bytes e h =
+    let m = length room - fill in
+    let l : length (take fill room) + m ≡ length room = omega (arith, length-take-le fill room h) in
+    let c : min m (length bytes) ≡ n = omega arith in
+    ap (λ (ys : List ℕ). take fill room ++ ys) (ap (λ (k : ℕ). take k bytes) (sym c) ∙ take_min m bytes) ∙ sym (take-append-add (take fill room) bytes m) ∙ ap (λ (k : ℕ). take k (take fill room ++ bytes)) l
+
 -- ---- answers
 
 -- one line more is answered
@@ -45,16 +54,10 @@ pub after_none : (line area : List ℕ) → After area [] (progress line 0 area)
 after_none line area = record { answered = ([], none, refl); kept = sym (take-nil (length line)) }
 
 module _ {begun input told line area : List ℕ} {fill : ℕ} (A : After begun input (progress line fill area) told) where
-  after_byte : (b : ℕ) → b ≢ 10 → fill < length line → After begun (input ++ (b ∷ [])) (progress (set line fill b) (fill + 1) area) told
-  after_byte b e h = record {
-    answered = subst (λ (ls : List (List ℕ)). Answered ls begun area told) (sym (ended_byte [] input b e)) A.answered;
-    kept = kept_byte line (rest [] input) fill A.kept h b ∙ ap (take (length (set line fill b))) (sym (rest_byte [] input b e));
-  }
-
-  after_over : (b : ℕ) → b ≢ 10 → fill ≤ length line → length line ≤ fill → After begun (input ++ (b ∷ [])) (progress line fill area) told
-  after_over b e h l = record {
-    answered = subst (λ (ls : List (List ℕ)). Answered ls begun area told) (sym (ended_byte [] input b e)) A.answered;
-    kept = kept_over line (rest [] input) fill A.kept h l b ∙ ap (take (length line)) (sym (rest_byte [] input b e));
+  after_plain : (bs : List ℕ) (h : Progress) → Plain bs → h.area ≡ area → length h.line ≡ length line → take h.fill h.line ≡ take (length line) (take fill line ++ bs) → After begun (input ++ bs) h told
+  after_plain bs h P a n k = record {
+    answered = rw (a, ended_plain [] input bs P) A.answered;
+    kept = rw (n, rest_plain [] input bs P) (k ∙ kept_more line (rest [] input) fill A.kept bs);
   }
 
   -- what is kept is served as the open line is
@@ -67,27 +70,29 @@ module _ {begun input told line area : List ℕ} {fill : ℕ} (A : After begun i
     kept = rw (z, rest_newline [] input b e) (sym (take-nil (length h.line)));
   }
 
--- ---- a piece, byte by byte
+-- ---- a piece, line by line
 
-module _ {h₀ : Progress} {xs line area out : List ℕ} {fill : ℕ} (F : Feeds xs h₀ (progress line fill area) out) (b : ℕ) where
-  pub feeds_byte : b ≢ 10 → fill < length line → Feeds (xs ++ (b ∷ [])) h₀ (progress (set line fill b) (fill + 1) area) out
-  feeds_byte e h begun input told A =
-      subst (λ (i : List ℕ). After begun i (progress (set line fill b) (fill + 1) area) (told ++ out)) (append_assoc input xs (b ∷ [])) (after_byte (F begun input told A) b e h)
+-- no byte yet
+pub feeds_none : {h : Progress} {out : List ℕ} → out ≡ [] → Feeds [] h h out
+feeds_none {h} {out} e begun input told A =
+    subst (λ (i : List ℕ). After begun i h (told ++ out)) (sym (append-nil input)) (subst (After begun input h) (sym (ap (λ (o : List ℕ). told ++ o) e ∙ append-nil told)) A)
 
-  pub feeds_over : b ≢ 10 → fill ≤ length line → length line ≤ fill → Feeds (xs ++ (b ∷ [])) h₀ (progress line fill area) out
-  feeds_over e h l begun input told A =
-      subst (λ (i : List ℕ). After begun i (progress line fill area) (told ++ out)) (append_assoc input xs (b ∷ [])) (after_over (F begun input told A) b e h l)
+module _ {h₀ : Progress} {xs line area out : List ℕ} {fill : ℕ} (F : Feeds xs h₀ (progress line fill area) out) where
+  pub feeds_plain : (bs : List ℕ) (h : Progress) → Plain bs → h.area ≡ area → length h.line ≡ length line → take h.fill h.line ≡ take (length line) (take fill line ++ bs) → Feeds (xs ++ bs) h₀ h out
+  feeds_plain bs h P a n k begun input told A =
+      subst (λ (i : List ℕ). After begun i h (told ++ out)) (append_assoc input xs bs) (after_plain (F begun input told A) bs h P a n k)
 
-  pub feeds_newline : (h : Progress) (out' : List ℕ) → h.fill ≡ 0 → b ≡ 10 → 8192 < length line → Puts (take fill line) area h.area out out' → Feeds (xs ++ (b ∷ [])) h₀ h out'
-  feeds_newline h out' z e l (o, S, d) begun input told A =
+  pub feeds_newline : (b : ℕ) (h : Progress) (out' : List ℕ) → h.fill ≡ 0 → b ≡ 10 → 8192 < length line → Puts (take fill line) area h.area out out' → Feeds (xs ++ (b ∷ [])) h₀ h out'
+  feeds_newline b h out' z e l (o, S, d) begun input told A =
       subst (λ (i : List ℕ). After begun i h (told ++ out')) (append_assoc input xs (b ∷ []))
       (subst (After begun (input ++ xs ++ (b ∷ [])) h) (append_assoc told out o ∙ ap (λ (t : List ℕ). told ++ t) (sym d)) (after_newline (F begun input told A) b h o z e l S))
 
--- the byte at i is fed behind those before it
-pub feeds_on : (piece : List ℕ) (i : ℕ) {h h' : Progress} {out : List ℕ} → i < length piece → Feeds (take i piece ++ (get_or piece i 0 ∷ [])) h h' out → Feeds (take (i + 1) piece) h h' out
-feeds_on piece i {h} {h'} {out} l F =
+-- what is left behind the byte at i, behind what was fed with it
+pub left_on : (xs left : List ℕ) (i : ℕ) → i < length left → (xs ++ take i left ++ (get_or left i 0 ∷ [])) ++ drop (i + 1) left ≡ xs ++ left
+left_on xs left i l =
     let e : i + 1 ≡ suc i = omega arith in
-    subst (λ (xs : List ℕ). Feeds xs h h' out) (sym (ap (λ (n : ℕ). take n piece) e ∙ take-suc piece i 0 l)) F
+    ap (λ (ys : List ℕ). ys ++ drop (i + 1) left) (append_assoc xs (take i left) (get_or left i 0 ∷ []) ∙ ap (λ (ys : List ℕ). xs ++ ys) (sym (ap (λ (n : ℕ). take n left) e ∙ take-suc left i 0 l)))
+    ∙ append_assoc xs (take (i + 1) left) (drop (i + 1) left) ∙ ap (λ (ys : List ℕ). xs ++ ys) (take-append-drop (i + 1) left)
 
 -- ---- the end of the input
 

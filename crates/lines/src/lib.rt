@@ -1,7 +1,7 @@
 // Input in pieces, as reads bring it: cut into lines, each line served, the answers gathered for one write. Assumes nothing.
 #![tactic(auto)]
 
-ghost use Rattle.std.specs.Prelude.{◌≡◌, ◌+◌, ◌*◌, ◌≤◌, ◌<◌, length, take, slice_set};
+ghost use Rattle.std.specs.Prelude.{◌≡◌, ◌+◌, ◌*◌, ◌≤◌, ◌<◌, ◌++◌, eqb, length, take, position};
 ghost use Rattle.print.specs.Print.{longest};
 
 use serve::Desk;
@@ -37,18 +37,23 @@ impl<'a> Buffer<'a> {
         self.fill = 0;
     }
 
-    // One byte more, where there is room for it.
-    fn push(&mut self, b: u8)
-        ensures over { length self.old.room.now ≤ self.old.fill → self.new ≡ self.old }
-        ensures counted { self.old.fill < length self.old.room.now → self.new.fill ≡ self.old.fill + 1 }
-        ensures stored { self.old.fill < length self.old.room.now → self.new.room.now ≡ slice_set self.old.room.now self.old.fill b }
+    // Bytes more, as many as there is room for.
+    fn extend(&mut self, bytes: &[u8])
+        ensures kept { take self.new.fill self.new.room.now ≡ take (length self.old.room.now) (take self.old.fill self.old.room.now ++ bytes.now) }
         ensures same_slice { SameSlice self.old.room self.new.room }
     {
-        if self.fill < self.room.len() {
-            self.room[self.fill] = b;
-            self.fill += 1;
-        }
+        let n = bytes.len().min(self.room.len() - self.fill);
+        let end = self.fill + n;
+        self.room[self.fill..end].copy_from_slice(&bytes[..n]);
+        self.fill = end;
     }
+}
+
+// Where the first newline stands.
+fn newline(bytes: &[u8]) -> Option<usize>
+    ensures { result ≡ position (λ b. eqb b 10) bytes.now }
+{
+    bytes.iter().position(|b| *b == b'\n')
 }
 
 // The desk that serves the lines of an input, the line that is open, of which the bytes past its room are dropped, and the answers to what was taken
@@ -117,13 +122,13 @@ impl<'a> Session<'a> {
         ensures same_slices { SameSlices self.old self.new }
     {
         self.answers.clear();
-        for &b in piece {
-            if b == b'\n' {
-                self.answer();
-            } else {
-                self.line.push(b);
-            }
+        let mut left = piece;
+        while let Some(at) = newline(left) {
+            self.line.extend(&left[..at]);
+            self.answer();
+            left = &left[at + 1..];
         }
+        self.line.extend(left);
     }
 
     // The end of the input: the last line, where it lacks its newline.

@@ -15,11 +15,10 @@ use Rattle.model.specs.Queue.Queue.{ready, park, lock, condition}
 use Rattle.model.specs.Field.Field.{holder, wakeup}
 use Rattle.model.specs.Machine.{State, model}
 use Rattle.model.proofs.Reports.{reports_whole}
-use Rattle.area.specs.Holds.{Holds}
 use Rattle.rows.specs.Printed.{Written}
 use Rattle.rows.proofs.Written.{written_then}
 use Rattle.rows.proofs.Numbers.{printed_length}
-use Rattle.sheet.specs.Sheet.{holder_of, wakeup_of, row_of, row, rows, page, Sheets, Rows}
+use Rattle.sheet.specs.Sheet.{Area, Shows, holder_of, wakeup_of, row_of, row, rows, page, Sheets, Rows}
 
 -- ---- the queue of a kind and a number
 
@@ -60,18 +59,18 @@ rows_length : (s : State model) (queue : ℕ → Queue) (m : ℕ) → length (ro
 rows_length s queue zero = refl
 rows_length s queue (suc m) = length-append (rows s queue m) (row s (queue (suc m))) ∙ rw (rows_length s queue m, printed_length (row_of s (queue (suc m)))) (omega arith)
 
-module _ {n : Shape} {area : List ℕ} {queue : ℕ → Queue} {at : ℕ} {old : List ℕ} where
+module _ {a : Area} {queue : ℕ → Queue} {at : ℕ} {old : List ℕ} where
   -- one row more
-  pub rows_on : {m next : ℕ} {mid new : List ℕ} → Rows n area queue m at old mid next
-      → ((s : State model) → Holds n area s → Written next (row s (queue (m + 1))) mid new) → Rows n area queue (m + 1) at old new (next + 29)
+  pub rows_on : {m next : ℕ} {mid new : List ℕ} → Rows a queue m at old mid next
+      → ((s : State model) → Shows a s → Written next (row s (queue (m + 1))) mid new) → Rows a queue (m + 1) at old new (next + 29)
   rows_on {m} R w = record {
     next = omega (arith, R.next);
     written = λ s H. rw (add-one m) (written_then (rw (rows_length s queue m) R.next) (R.written s H) (rw (add-one m) at (w s H)));
   }
 
   -- after those below a number, its own
-  pub rows_next : {number next : ℕ} {mid new : List ℕ} → 0 < number → Rows n area queue (number - 1) at old mid next
-      → ((s : State model) → Holds n area s → Written next (row s (queue number)) mid new) → Rows n area queue number at old new (next + 29)
+  pub rows_next : {number next : ℕ} {mid new : List ℕ} → 0 < number → Rows a queue (number - 1) at old mid next
+      → ((s : State model) → Shows a s → Written next (row s (queue number)) mid new) → Rows a queue number at old new (next + 29)
   rows_next {number} {new = new} h R w = let e : number - 1 + 1 ≡ number = omega arith in rw e at (rows_on {new = new} R (λ s H. rw e (w s H)))
 
 -- ---- the page
@@ -86,15 +85,15 @@ page_length n s =
     simp (length-append, printed_length (row_of s ready), p, l, c) (omega arith)
 
 -- ready's row, then those of parks, locks and conditions
-pub page_written : (n : Shape) (s : State model) {area old one two three new : List ℕ} {parks locks end : ℕ} → Holds n area s
-    → Written 0 (row s ready) old one → Rows n area park n.parks 29 one two parks → Rows n area lock n.locks parks two three locks → Rows n area condition n.conditions locks three new end
-    → Written 0 (page n s) old new
+pub page_written : {a : Area} (s : State model) {old one two three new : List ℕ} {parks locks end : ℕ} → Shows a s
+    → Written 0 (row s ready) old one → Rows a park a.shape.parks 29 one two parks → Rows a lock a.shape.locks parks two three locks → Rows a condition a.shape.conditions locks three new end
+    → Written 0 (page a.shape s) old new
 unfolding page
-page_written n s H a p l c =
+page_written {a} s H r p l c =
     let h = printed_length (row_of s ready) in
-    let i = rows_length s park n.parks in
-    let j = rows_length s lock n.locks in
-    written_then (omega arith) a (written_then (omega (arith, p.next)) (p.written s H) (written_then (omega (arith, l.next)) (l.written s H) (c.written s H)))
+    let i = rows_length s park a.shape.parks in
+    let j = rows_length s lock a.shape.locks in
+    written_then (omega arith) r (written_then (omega (arith, p.next)) (p.written s H) (written_then (omega (arith, l.next)) (l.written s H) (c.written s H)))
 
 -- the page, told with its bytes as the count
 pub page_told : (n : Shape) (s : State model) {k : ℕ} {old new : List ℕ} → k ≡ 29 * (1 + n.parks + n.locks + n.conditions) → Written 0 (page n s) old new → Sheets n s old new record { code = 0; count = k }

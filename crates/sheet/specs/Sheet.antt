@@ -13,6 +13,15 @@ use Rattle.area.specs.Holds.{Holds}
 use Rattle.rows.specs.declared.Row.{Row}
 use Rattle.rows.specs.Printed.{printed, Written}
 
+-- the words of an area, and the counts by which it is laid out
+pub record Area : Type 0 where
+  pub words : List ℕ
+  pub shape : Shape
+
+-- it holds the state
+abbrev pub Shows : Area → State model → Type 0
+Shows a s = Holds a.shape a.words s
+
 -- ---- what a row says
 
 -- a lock's holder; no other queue has one
@@ -62,6 +71,6 @@ abbrev pub Sheets : Shape → State model → List ℕ → List ℕ → Report �
 Sheets n s old new r = Reports (length (page n s)) (page n s) old new r
 
 -- m rows of a kind have been written from `at` on, and the next row goes to r
-pub record Rows (n : Shape) (area : List ℕ) (queue : ℕ → Queue) (m at : ℕ) (old new : List ℕ) (r : ℕ) : Type 0 where
+pub record Rows (a : Area) (queue : ℕ → Queue) (m at : ℕ) (old new : List ℕ) (r : ℕ) : Type 0 where
   pub next : r ≡ at + 29 * m
-  pub written : (s : State model) → Holds n area s → Written at (rows s queue m) old new
+  pub written : (s : State model) → Shows a s → Written at (rows s queue m) old new

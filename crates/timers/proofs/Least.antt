@@ -9,7 +9,7 @@ use mathlib.Core.Bool.{Bool, true, false, true≢false}
 use Rattle.std.specs.Prelude.{Option, Some, None}
 use mathlib.Core.List.{List, [], ◌∷◌, ◌++◌, map}
 use lib.Dec.{eqb}
-use Rattle.std.specs.Option.{unwrap_or}
+use Rattle.std.specs.Option.{unwrap_or, option_zip}
 use Rattle.model.specs.declared.Shape.{Shape}
 use Rattle.model.specs.Queue.{up_to, filter}
 use Rattle.model.specs.Machine.{State, model}
@@ -32,21 +32,21 @@ pub record First (f : ℕ → ℕ) (q p d : ℕ) : Type 0 where
   pub before : (x : ℕ) → 1 ≤ x → x < p → f x ≢ d
 
 -- such a one is the nearest of 1 to q, or nobody has any
-abbrev pub Least : (ℕ → ℕ) → ℕ → Option Entry → Type 0
-Least f q None = (x : ℕ) → 1 ≤ x → x ≤ q → f x ≡ 0
-Least f q (Some e) = First f q e.0 e.1
+abbrev pub Least : (ℕ → ℕ) → (q p : ℕ) → Option ℕ → Type 0
+Least f q p None = (x : ℕ) → 1 ≤ x → x ≤ q → f x ≡ 0
+Least f q p (Some d) = First f q p d
 
 module _ (f : ℕ → ℕ) where
   -- nobody is passed
-  pub least_start : Least f 0 None
+  pub least_start : Least f 0 0 None
   least_start x a b = absurd (omega arith)
 
   -- p comes next
   module _ (p : ℕ) (h : 1 ≤ p) where
     -- who has none
-    pub least_none : (o : Option Entry) → Least f (p - 1) o → f p ≡ 0 → Least f (p + 1 - 1) o
-    least_none None L e = λ x a b. elim (ℕ_discrete x p) [ yes k ↦ rw k e | no k ↦ L x a (omega arith) ]
-    least_none (Some m) L e = record {
+    pub least_none : (m : ℕ) (o : Option ℕ) → Least f (p - 1) m o → f p ≡ 0 → Least f (p + 1 - 1) m o
+    least_none m None L e = λ x a b. elim (ℕ_discrete x p) [ yes k ↦ rw k e | no k ↦ L x a (omega arith) ]
+    least_none m (Some l) L e = record {
       above = L.above;
       within = omega (arith, L.within);
       has = L.has;
@@ -57,33 +57,33 @@ module _ (f : ℕ → ℕ) where
 
     module _ {d : ℕ} (has : f p ≡ d) (some : d ≢ 0) where
       -- all before have more than who has fewer than the nearest so far
-      more : (o : Option Entry) → Least f (p - 1) o → fewer d o ≡ true → (x : ℕ) → 1 ≤ x → x < p → f x ≢ 0 → d < f x
-      more None L t x a b n = absurd (n (L x a (omega arith)))
-      more (Some m) L t x a b n =
-          let less = so (leb_case (suc d) m.1) t in
+      more : (m : ℕ) (o : Option ℕ) → Least f (p - 1) m o → fewer d o ≡ true → (x : ℕ) → 1 ≤ x → x < p → f x ≢ 0 → d < f x
+      more m None L t x a b n = absurd (n (L x a (omega arith)))
+      more m (Some l) L t x a b n =
+          let less = so (leb_case (suc d) l) t in
           let least = L.least x a (omega arith) n in
           omega arith
 
       -- who has fewer
-      pub least_taken : (o : Option Entry) → Least f (p - 1) o → fewer d o ≡ true → Least f (p + 1 - 1) (Some (p, d))
-      least_taken o L t = record {
+      pub least_taken : (m : ℕ) (o : Option ℕ) → Least f (p - 1) m o → fewer d o ≡ true → Least f (p + 1 - 1) p (Some d)
+      least_taken m o L t = record {
         above = h;
         within = omega arith;
         has = has;
         some = some;
-        least = λ x a b n. elim (ℕ_discrete x p) [ yes k ↦ rw (k, has) (omega arith) | no k ↦ let m = more o L t x a (omega arith) n in omega arith ];
-        before = λ x a b e. let m = more o L t x a b (λ z. some (sym e ∙ z)) in omega arith;
+        least = λ x a b n. elim (ℕ_discrete x p) [ yes k ↦ rw (k, has) (omega arith) | no k ↦ let y = more m o L t x a (omega arith) n in omega arith ];
+        before = λ x a b e. let y = more m o L t x a b (λ z. some (sym e ∙ z)) in omega arith;
       }
 
       -- who has not
-      pub least_left : (o : Option Entry) → Least f (p - 1) o → fewer d o ≡ false → Least f (p + 1 - 1) o
-      least_left None L t = absurd (true≢false t)
-      least_left (Some m) L t = record {
+      pub least_left : (m : ℕ) (o : Option ℕ) → Least f (p - 1) m o → fewer d o ≡ false → Least f (p + 1 - 1) m o
+      least_left m None L t = absurd (true≢false t)
+      least_left m (Some l) L t = record {
         above = L.above;
         within = omega (arith, L.within);
         has = L.has;
         some = L.some;
-        least = λ x a b n. elim (ℕ_discrete x p) [ yes k ↦ (let l = not_so (leb_case (suc d) m.1) t in rw (k, has) (omega arith)) | no k ↦ L.least x a (omega arith) n ];
+        least = λ x a b n. elim (ℕ_discrete x p) [ yes k ↦ (let y = not_so (leb_case (suc d) l) t in rw (k, has) (omega arith)) | no k ↦ L.least x a (omega arith) n ];
         before = L.before;
       }
 
@@ -128,8 +128,8 @@ module _ (n : Shape) (s : State model) where
       go (no i) ih = let r = ih (omega arith) in (r.0 ++ with_left n s (suc k), rw r.1)
 
   -- so the walk ends at the nearest
-  pub nearest_is : {q : ℕ} → q ≡ n.processes → (o : Option Entry) → Least (left n s) q o → unwrap_or o (0, 0) ≡ nearest n s
-  nearest_is e None L = rw (none_within 65536 (λ x a b o. absurd (o (L x a (omega arith)))))
-  nearest_is e (Some m) L =
+  pub nearest_is : {q : ℕ} → q ≡ n.processes → (p : ℕ) (o : Option ℕ) → Least (left n s) q p o → unwrap_or (option_zip (Some p) o) (0, 0) ≡ nearest n s
+  nearest_is e p None L = rw (none_within 65536 (λ x a b o. absurd (o (L x a (omega arith)))))
+  nearest_is e p (Some d) L =
       let F = rw e at L in
-      rw (first_within m.0 m.1 F.above F.within F.has F.some F.least F.before 65536 (rw (← F.has) (left_most n s m.0))).1
+      rw (first_within p d F.above F.within F.has F.some F.least F.before 65536 (rw (← F.has) (left_most n s p))).1

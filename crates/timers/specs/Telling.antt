@@ -32,9 +32,9 @@ unfoldable pub due_ones : ℕ → Shape → State model → List ℕ
 due_ones k n s = filter (λ p. inside k (left n s p)) (up_to n.processes)
 
 -- whether so many ticks left are fewer than those of the nearest so far, if there is one
-abbrev pub fewer : ℕ → Option Entry → Bool
+abbrev pub fewer : ℕ → Option ℕ → Bool
 fewer d None = true
-fewer d (Some e) = ltb d e.1
+fewer d (Some l) = ltb d l
 
 -- who is due within k ticks, of a state, into a buffer: fewer than two words for each process told is 5; the count is of processes
 abbrev pub Tells : ℕ → Shape → State model → List ℕ → List ℕ → Report → Type 0

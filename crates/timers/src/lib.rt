@@ -77,10 +77,10 @@ impl<'a> Reading<'a> {
     }
 
     // How many are.
-    fn count_due(&self, ticks: u16) -> usize
+    fn count_due(&self, ticks: u16) -> u16
         ensures { (s : State model) → Shows self.now s → result ≡ length (due_ones ticks self.now.shape s) }
     {
-        let mut count: usize = 0;
+        let mut count: u16 = 0;
         for p in 1..=self.shape.processes {
             if self.is_due(ticks, p) {
                 count += 1;
@@ -109,24 +109,27 @@ impl<'a> Reading<'a> {
     fn nearest(&self) -> Option<(u16, u32)>
         ensures { (s : State model) → Shows self.now s → unwrap_or result (0, 0) ≡ nearest self.now.shape s }
     {
-        let mut nearest: Option<(u16, u32)> = None;
+        // As one pair, a compiler packs them anew for each that is nearer.
+        let mut process: u16 = 0;
+        let mut least: Option<u32> = None;
         for p in 1..=self.shape.processes {
             if let Some(left) = self.left_of(p) {
-                if nearer(left, nearest) {
-                    nearest = Some((p, left));
+                if nearer(left, least) {
+                    process = p;
+                    least = Some(left);
                 }
             }
         }
-        nearest
+        Some(process).zip(least)
     }
 }
 
 // Whether so many ticks left are fewer than those of the nearest so far, if there is one.
-fn nearer(left: u32, nearest: Option<(u16, u32)>) -> bool
-    ensures { result ≡ fewer left nearest }
+fn nearer(left: u32, least: Option<u32>) -> bool
+    ensures { result ≡ fewer left least }
 {
-    match nearest {
-        Some((_, least)) => left < least,
+    match least {
+        Some(least) => left < least,
         None => true,
     }
 }
@@ -139,16 +142,17 @@ pub fn due(area: &[u16], shape: Shape, ticks: Ticks, buffer: &mut [u16]) -> Resu
     let within = ticks.0;
     let clock = area::get(area, places::clock());
     let reading = Reading { area, shape, clock };
-    let count = reading.count_due(within);
-    if count == 0 {
+    let told = reading.count_due(within);
+    if told == 0 {
         return Ok(0);
     }
+    let count = usize::from(told);
     if buffer.len() < 2 * count {
         return Err(Refusal::Short);
     }
     reading.write_due(within, buffer);
     order::arrange(area, shape, clock, buffer, count);
-    Ok(count as u16)
+    Ok(told)
 }
 
 // The process with the fewest ticks left, and of several the first by number.

@@ -19,4 +19,4 @@ pub returns : goal.returns
 returns c s H =
     let n = c.args.shape in
     let ready = rw (c.row_of-ready.ensures s H) at (c.put_rest.ensures _ c.put_label.ensures) in
-    page_told n s (omega arith) (page_written n s H ready c.put_kind-parks_end.ensures c.put_kind-locks_end.ensures c.put_kind.ensures)
+    page_told n s (omega arith) (page_written s H ready c.put_kind-parks_end.ensures c.put_kind-locks_end.ensures c.put_kind.ensures)

@@ -7,4 +7,4 @@ use Rattle.timers.proofs.Least.{Least}
 use Rattle.timers.proofs.Reading.nearest.Given as goal
 
 abbrev pub invariant-loop-p : goal.invariant-loop-p
-invariant-loop-p l = (s : State model) → Shows l.self s → Least (left l.self.shape s) (l.p - 1) l.nearest
+invariant-loop-p l = (s : State model) → Shows l.self s → Least (left l.self.shape s) (l.p - 1) l.process l.least
