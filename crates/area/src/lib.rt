@@ -103,7 +103,7 @@ fn record_at(shape: Shape, p: u16) -> usize
     records_at(shape) + (usize::from(p) - 1) * RECORD
 }
 
-// ---- a part of a word
+// ---- a part of a word; what narrows is proved to fit, and `as` alone narrows without a branch
 
 // The part that counts in steps of unit and has span values.
 fn part_of(word: u16, unit: u16, span: u32) -> u16
@@ -208,7 +208,7 @@ pub fn set_running(area: &mut [u16], p: u16)
     area[layout::RUNNING] = p * links::NUMBER;
 }
 
-// ---- the records, lent as a part behind what stands in front of them
+// ---- the records, lent as a part behind what stands in front of them: a fact of the part and of the counts, which no type of one of them can have
 
 // p's priority.
 pub fn set_rank(records: &mut [u16], p: u16, v: u16)

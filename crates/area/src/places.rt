@@ -18,6 +18,17 @@ pub struct Place {
 }
 
 impl Place {
+    // A word that has nothing else in it.
+    fn word(at: usize) -> Place
+        ensures { result ≡ record { at = at; unit = 1; span = 65536 } }
+    {
+        Place {
+            at,
+            unit: 1,
+            span: layout::WORD,
+        }
+    }
+
     // One bit of a word.
     fn bit(at: usize, unit: u16) -> Place
         ensures { result ≡ record { at = at; unit = unit; span = 2 } }
@@ -33,11 +44,7 @@ impl Place {
 pub fn clock() -> Place
     ensures { (n : Shape) → Lies n (kept Field.clock) result }
 {
-    Place {
-        at: layout::CLOCK,
-        unit: 1,
-        span: layout::WORD,
-    }
+    Place::word(layout::CLOCK)
 }
 
 pub fn failed(shape: Shape, p: u16) -> Place
@@ -58,11 +65,7 @@ pub fn timer(shape: Shape, p: u16) -> Place
     requires { inside shape.processes p ≡ true }
     ensures { Lies shape (kept (Field.timer p)) result }
 {
-    Place {
-        at: record_at(shape, p) + links::TIMER,
-        unit: 1,
-        span: layout::WORD,
-    }
+    Place::word(record_at(shape, p) + links::TIMER)
 }
 
 pub fn abort(shape: Shape, p: u16) -> Place
@@ -83,6 +86,7 @@ pub fn holder(shape: Shape, l: u16) -> Place
     requires { inside shape.locks l ≡ true }
     ensures { Lies shape (kept (Field.holder l)) result }
 {
+    // a constant, so `as` is no step that could fail
     Place {
         at: lock_at(shape, l) + layout::HOLDER,
         unit: links::NUMBER,

@@ -65,7 +65,7 @@ pub fn tick(area: &mut [u16], shape: Shape) -> Answer
     ensures { (s : State model) → Holds shape area.old s → Valid shape s → Does Tick shape area.old area.new s result }
 {
     let before = area::get(area, places::clock());
-    let time = std::num::wrapping_add_u16(before, 1);
+    let time = before.wrapping_add(1);
     area::put(area, places::clock(), time);
     let moved = wake_due(area, shape, time);
     answers::finish(area, shape, 0, moved, 0)

@@ -130,19 +130,19 @@ pub fn kernel_reenter(area: &mut [u16], lock: u16, condition: u16) -> u64
 pub fn kernel_list(area: &[u16], kind: u16, number: u16, buffer: &mut [u16]) -> u64
     ensures { Writes kind number area.now buffer.old buffer.new result }
 {
-    wire::pack_report::<10>(answers::report(reads::list(area, kind, number, buffer)))
+    wire::pack_list(answers::report(reads::list(area, kind, number, buffer)))
 }
 
 pub fn kernel_due(area: &[u16], ticks: u16, buffer: &mut [u16]) -> u64
     ensures { Dues ticks area.now buffer.old buffer.new result }
 {
-    wire::pack_report::<20>(answers::report(reads::due(area, Ticks(ticks), buffer)))
+    wire::pack_report(answers::report(reads::due(area, Ticks(ticks), buffer)))
 }
 
 pub fn kernel_sheet(area: &[u16], page: &mut [u8]) -> u64
     ensures { Pages area.now page.old page.new result }
 {
-    wire::pack_report::<20>(answers::report(reads::sheet(area, page)))
+    wire::pack_report(answers::report(reads::sheet(area, page)))
 }
 
 pub fn kernel_nearest(area: &[u16]) -> u64

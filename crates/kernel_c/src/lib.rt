@@ -1,7 +1,6 @@
 // The static library for C, libkernel_c.a: each export is the function of the crate kernel that has its name, and promises the same; the functions are not here, since no crate stands on a static library. Assumes nothing.
 #![tactic(auto)]
 
-ghost use Rattle.std.specs.Prelude.{ℕ, List};
 ghost use Rattle.model.specs.declared.Call.TheVariants.{Enter, Exit, Wait, Notify, Broadcast, Naked, Requeue, SetPriority, Tick, Abort, SetAbortable, Reenter};
 ghost use Rattle.kernel.specs.Exports.{Crosses, Begins, Judges, Writes, Dues, Pages, Nears};
 

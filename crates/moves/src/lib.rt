@@ -87,7 +87,7 @@ pub fn copy_out(area: &[u16], shape: Shape, i: usize, out: &mut [u16]) -> u16
     ring::write_out(records, tail, out)
 }
 
-// ---- moves; the records begin at base
+// ---- moves; the records begin at base, and a place is one of a queue by the counts, so each asks for what no type of one of them can have
 
 // p leaves the ring whose tail stands at i, if it stands there. Whether it does.
 fn take_out(area: &mut [u16], base: usize, i: usize, p: u16) -> bool

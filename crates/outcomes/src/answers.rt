@@ -13,7 +13,7 @@ pub fn refusal(code: u16) -> Answer
     ensures { result ≡ machine.refusal code }
 {
     Answer {
-        code: code,
+        code,
         running: 0,
         retry: 0,
         mark: 0,
@@ -55,8 +55,8 @@ pub fn finish(area: &mut [u16], shape: Shape, mark: u16, moved: u16, ahead: u16)
         code: 0,
         running: d.running,
         retry: d.retry,
-        mark: mark,
-        moved: moved,
-        ahead: ahead,
+        mark,
+        moved,
+        ahead,
     }
 }

@@ -31,6 +31,7 @@ fn put_digits(out: &mut [u8], at: usize, count: usize, n: u16)
 {
     let mut rest = n;
     for i in (at..at + count).rev() {
+        // a digit fits a byte
         out[i] = b'0' + ((rest % 10) as u8);
         rest /= 10;
     }

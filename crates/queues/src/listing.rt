@@ -6,7 +6,7 @@ ghost use Rattle.queues.specs.Listing.{Lists};
 
 use model::{Refusal, Shape};
 
-// List of a kind and a number.
+// List of a kind, which is C's number, and a number.
 pub fn list(
     area: &[u16],
     shape: Shape,

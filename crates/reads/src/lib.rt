@@ -7,7 +7,7 @@ ghost use Rattle.reads.specs.Reads.{ListsOn, TellsOn, SheetsOn, NearestOn};
 use model::{Refusal, Ticks};
 use timers::Earliest;
 
-// List: one queue, first to last, into the buffer.
+// List: one queue, first to last, into the buffer; the kind is C's number.
 pub fn list(area: &[u16], kind: u16, number: u16, buffer: &mut [u16]) -> Result<u16, Refusal>
     ensures { ListsOn kind number area.now buffer.old buffer.new (report_in result) }
 {

@@ -24,7 +24,7 @@ fn blank(page: &mut [u8], at: usize)
     page[at..at + 28].fill(b' ');
 }
 
-// A number, right-aligned in the columns from `at` on, which are blank; the last digit is written first.
+// A number, right-aligned in the columns from `at` on, which are blank; the last digit is written first. A digit fits a byte. No `write!`: no clause says which bytes it writes.
 fn put_number(page: &mut [u8], at: usize, columns: usize, number: u16)
     requires { at + columns ≤ length page.old }
     ensures { take columns (drop at page.old) ≡ spaces columns → Written at (aligned columns number) page.old page.new }

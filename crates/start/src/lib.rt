@@ -1,7 +1,7 @@
 // Start: the area is written anew, and every process comes into ready, linked there by ring. Assumes nothing.
 #![tactic(auto)]
 
-ghost use Rattle.std.specs.Prelude.{◌≡◌, true, [], ℕ, ◌<◌, ◌≤◌, length, get_or, drop};
+ghost use Rattle.std.specs.Prelude.{◌≡◌, true, [], ◌≤◌, length};
 ghost use Rattle.model.specs.declared.Shape.{Shape};
 ghost use Rattle.model.specs.Rules.{counted, any_above, start_code};
 ghost use Rattle.model.specs.Refusals.{code_in, answer_in};
@@ -40,7 +40,7 @@ fn tested(shape: Shape, priorities: &[u8]) -> Result<(), Refusal>
     if !in_range(shape) {
         return Err(Refusal::BadCount);
     }
-    if priorities.len() != shape.processes as usize {
+    if priorities.len() != usize::from(shape.processes) {
         return Err(Refusal::BadList);
     }
     if one_above(priorities) {

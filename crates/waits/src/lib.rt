@@ -24,7 +24,7 @@ fn alarm_at(now: u16, t: u16) -> u16
     if t == 0 {
         return 0;
     }
-    std::num::wrapping_add_u16(now, t)
+    now.wrapping_add(t)
 }
 
 // The running process p is armed and sets its timer, if it is to wait for some ticks, and moves to the condition. How many are ahead of it there.

@@ -44,12 +44,18 @@ pub fn pack(a: Answer) -> u64
     ])
 }
 
-// Code and count, so many bits each, code lowest.
-pub fn pack_report<const BITS: u32>(r: Report) -> u64
-    requires { BITS ≤ 20 }
-    ensures { result ≡ packed BITS (report_fields r) }
+// List's code and count, ten bits each, code lowest.
+pub fn pack_list(r: Report) -> u64
+    ensures { result ≡ packed 10 (report_fields r) }
 {
-    packed::<BITS>(&[u32::from(r.code), u32::from(r.count)])
+    packed::<10>(&[u32::from(r.code), u32::from(r.count)])
+}
+
+// Those of the reads of document 02, twenty bits each.
+pub fn pack_report(r: Report) -> u64
+    ensures { result ≡ packed 20 (report_fields r) }
+{
+    packed::<20>(&[u32::from(r.code), u32::from(r.count)])
 }
 
 // Who is the nearest, twenty bits a field, code lowest.

@@ -3,4 +3,4 @@ use Rattle.kernel.proofs.Packing.{writes}
 use Rattle.kernel.proofs.kernel_list.Goals as goal
 
 pub returns : goal.returns
-returns c = writes c.list.ensures (rw c.report.ensures at c.pack_report.ensures)
+returns c = writes c.list.ensures (rw c.report.ensures at c.pack_list.ensures)

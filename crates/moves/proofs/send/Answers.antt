@@ -1,6 +1,5 @@
 -- `moves::send` meets its contract: leaving, the waiting bit, and joining make the move, with the priority that the process has. Assumes nothing.
 use native.Mathlib.Omega.{arith}
-use borrow.Author.Tests.{not-false, not-true}
 use mathlib.Core.Path.{sym, ◌∙◌}
 use lib.ListN.{take}
 use Rattle.area.specs.Layout.{records_at}
@@ -15,7 +14,7 @@ take_out-requires c = let pre = c.requires in (pre.0, pre.1, move_leaves pre.2)
 pub returns-then-not-take_out : goal.returns-then-not-take_out
 returns-then-not-take_out c n e m =
     let t = c.take_out.ensures n e (move_leaves m) in
-    let no = sym t.told ∙ not-true c.take_out.result c.if-not-take_out.true-raw in
+    let no = sym t.told ∙ c.if-not-take_out.true in
     did_not no (t.kept no)
 
 pub set_waiting-requires : goal.set_waiting-requires
@@ -23,7 +22,7 @@ set_waiting-requires c =
     let pre = c.requires in
     let m = pre.2 in
     let t = c.take_out.ensures pre.0 pre.1 (move_leaves m) in
-    let yes = sym t.told ∙ not-false c.take_out.result c.if-not-take_out.false-raw in
+    let yes = sym t.told ∙ c.if-not-take_out.false in
     let L = t.done yes in record { image = (pre.0, take (records_at pre.0) c.take_out.new.area, L.parts, lent_front pre.1 L.rings.image, lent_image pre.1 L.rings.image, m.process); is_bit = omega (arith, move_waits m) }
 
 pub put_in-requires : goal.put_in-requires
@@ -31,7 +30,7 @@ put_in-requires c =
     let pre = c.requires in
     let m = pre.2 in
     let t = c.take_out.ensures pre.0 pre.1 (move_leaves m) in
-    let yes = sym t.told ∙ not-false c.take_out.result c.if-not-take_out.false-raw in
+    let yes = sym t.told ∙ c.if-not-take_out.false in
     let L = t.done yes in
     let im = L.rings.image in
     let W = own_waiting m L (back_stored pre.1 im c.set_waiting.new.records (c.set_waiting.ensures pre.0 (take (records_at pre.0) c.take_out.new.area) L.parts (lent_front pre.1 im) (lent_image pre.1 im) m.process)) in
@@ -40,7 +39,7 @@ put_in-requires c =
 pub returns : goal.returns
 returns c n e m =
     let t = c.take_out.ensures n e (move_leaves m) in
-    let yes = sym t.told ∙ not-false c.take_out.result c.if-not-take_out.false-raw in
+    let yes = sym t.told ∙ c.if-not-take_out.false in
     let L = t.done yes in
     let im = L.rings.image in
     let W = own_waiting m L (back_stored e im c.set_waiting.new.records (c.set_waiting.ensures n (take (records_at n) c.take_out.new.area) L.parts (lent_front e im) (lent_image e im) m.process)) in

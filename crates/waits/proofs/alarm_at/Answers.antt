@@ -1,4 +1,5 @@
 -- `waits::alarm_at` meets its contract: the clock plus the ticks, going round, with 0 for none. Assumes nothing.
+use mathlib.Core.Path.{refl}
 use Rattle.waits.proofs.Waiting.{alarm_none, alarm_due}
 use Rattle.waits.proofs.alarm_at.Goals as goal
 
@@ -6,4 +7,4 @@ pub returns-then-t-eq0 : goal.returns-then-t-eq0
 returns-then-t-eq0 c = alarm_none c.args.now c.if-t-eq0.true
 
 pub returns : goal.returns
-returns c = alarm_due c.args.now c.if-t-eq0.false c.wrapping_add_u16.ensures.value
+returns c = alarm_due c.args.now c.if-t-eq0.false refl

@@ -34,4 +34,4 @@ returns c s H v =
     let now = c.get-before.ensures n s clock H (c.clock.ensures n) in
     let b = c.put.ensures n s clock H (taking clock (c.clock-2.ensures n) refl (omega arith)) in
     let w = c.wake_due-moved.ensures _ b.holds (valid_clock b.holds.placed v) in
-    ticks H v now c.wrapping_add_u16-time.ensures.value w.0 (becomes_then b w.1) (c.finish.ensures _ w.1.holds)
+    ticks H v now refl w.0 (becomes_then b w.1) (c.finish.ensures _ w.1.holds)
