@@ -113,12 +113,14 @@ pub enum Refusal {
     NotThere,
 }
 
-impl Refusal {
-    // The code, as C and a log have it.
-    pub fn code(self) -> u16
-        ensures { result ≡ code_of self }
+// The code, as C and a log have it.
+impl From<Refusal> for u16 {
+    ghost from_gives = { λ why code. code ≡ code_of why };
+
+    fn from(why: Refusal) -> u16
+        ensures { result ≡ code_of why }
     {
-        match self {
+        match why {
             Refusal::Unsound => 1,
             Refusal::BadCount => 2,
             Refusal::BadList => 3,

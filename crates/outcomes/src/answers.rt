@@ -28,7 +28,7 @@ pub fn answer(outcome: Result<Answer, Refusal>) -> Answer
 {
     match outcome {
         Ok(answer) => answer,
-        Err(why) => refusal(why.code()),
+        Err(why) => refusal(u16::from(why)),
     }
 }
 
@@ -39,7 +39,7 @@ pub fn report(outcome: Result<u16, Refusal>) -> Report
     match outcome {
         Ok(count) => Report { code: 0, count },
         Err(why) => Report {
-            code: why.code(),
+            code: u16::from(why),
             count: 0,
         },
     }

@@ -38,7 +38,7 @@ pub fn nearest(area: &[u16]) -> Earliest
     match sound::shape_of(area) {
         Ok(shape) => timers::nearest(area, shape),
         Err(why) => Earliest {
-            code: u32::from(why.code()),
+            code: u32::from(u16::from(why)),
             process: 0,
             left: 0,
         },

@@ -11,4 +11,4 @@ pub returns-in-Ok : goal.returns-in-Ok
 returns-in-Ok c = nearest_at c.in-Ok.ensures c.nearest.ensures
 
 pub returns-in-Err : goal.returns-in-Err
-returns-in-Err c = nearest_not c.in-Err.ensures (rw (c.from.ensures, c.code.ensures) refl)
+returns-in-Err c = nearest_not c.in-Err.ensures (rw (c.from-in-Err.ensures, c.from.ensures) refl)
