@@ -1,8 +1,10 @@
-// What the kernel is called with and what it answers, as types; the tuple structs keep numbers of different kinds apart. Assumes nothing.
+// What the kernel is called with and what it answers, as types; the tuple structs keep numbers of different kinds apart. `kinds` names List's. Assumes nothing.
 #![tactic(auto)]
 
 ghost use Rattle.std.specs.Prelude.{◌≡◌};
 ghost use Rattle.model.specs.Refusals.{code_of};
+
+pub mod kinds;
 
 // The four counts of an area.
 #[derive(Clone, Copy)]

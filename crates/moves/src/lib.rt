@@ -15,9 +15,10 @@ ghost use Rattle.area.specs.Holds.{Holds, Held, Becomes, Tried, Moves, with, sen
 ghost use Rattle.area.specs.Rings.{Leaves, Joins, Relinked, ranks};
 
 use model::Shape;
+use model::kinds::{CONDITION, LOCK, PARK, READY};
 use ring::Arrival;
 
-// ---- reads; a process is 0 where there is none, as `first` and `last` have it, and the kind is a number, C's own
+// ---- reads; a process is 0 where there is none, as `first` and `last` have it, and the kind is List's number, C's own
 
 // Whether a number is one of 1 to `most`.
 fn inside(most: u16, number: u16) -> bool
@@ -31,10 +32,10 @@ pub fn queue_at(shape: Shape, kind: u16, number: u16) -> Option<usize>
     ensures { result ≡ cond (is_queue shape kind number) (Some (at shape (Tail (queue_by kind number)))) None }
 {
     match kind {
-        0 if number == 0 => Some(area::ready_at()),
-        1 if inside(shape.parks, number) => Some(area::park_at(number)),
-        2 if inside(shape.locks, number) => Some(area::lock_at(shape, number)),
-        3 if inside(shape.conditions, number) => Some(area::condition_at(shape, number)),
+        READY if number == 0 => Some(area::ready_at()),
+        PARK if inside(shape.parks, number) => Some(area::park_at(number)),
+        LOCK if inside(shape.locks, number) => Some(area::lock_at(shape, number)),
+        CONDITION if inside(shape.conditions, number) => Some(area::condition_at(shape, number)),
         _ => None,
     }
 }

@@ -4,7 +4,9 @@
 ghost use Rattle.std.specs.Prelude.{◌≡◌, List, ◌++◌, ℕ, ◌+◌, ◌≤◌, length, take, drop};
 ghost use Rattle.rows.specs.Printed.{spaces, aligned, name, label, printed, Written};
 
-// What the row of a queue says; what the queue does not have is 0. Kinds are List's, as C has them: 0 ready, 1 park, 2 lock, 3 condition.
+use model::kinds::{CONDITION, LOCK, PARK, READY};
+
+// What the row of a queue says; what the queue does not have is 0. The kind is List's number.
 #[derive(Clone, Copy)]
 pub struct Row {
     pub kind: u16,
@@ -45,9 +47,9 @@ fn letters_of(kind: u16) -> [u8; 2]
     ensures { result ≡ name kind }
 {
     match kind {
-        0 => *b"RD",
-        1 => *b"PK",
-        2 => *b"LK",
+        READY => *b"RD",
+        PARK => *b"PK",
+        LOCK => *b"LK",
         _ => *b"CN",
     }
 }

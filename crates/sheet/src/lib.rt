@@ -9,21 +9,13 @@ ghost use Rattle.area.specs.Holds.{Holds, Held};
 ghost use Rattle.sheet.specs.Sheet.{Shows, holder_of, wakeup_of, row_of, count_of, Sheets, Rows};
 
 use area::places;
+use model::kinds::{CONDITION, LOCK, PARK, READY};
 use model::{Refusal, Shape};
 use rows::Row;
 use std::marker::Model;
 
 // How many bytes a row has: 28 columns and a newline.
 const ROW: usize = 29;
-
-// The kinds of queues, as List numbers them.
-const READY: u16 = 0;
-
-const PARK: u16 = 1;
-
-const LOCK: u16 = 2;
-
-const CONDITION: u16 = 3;
 
 // An area that holds a state, and the counts by which it is laid out.
 #[derive(Drop)]
