@@ -1,39 +1,21 @@
--- What two tests on a number say together: it is one of those that the counts give, or it is not; and what the first of a queue says: 0 where
--- the queue is empty, since no process is 0, and else a process. Assumes nothing.
-use Prim.Native.Nat.{ℕ, suc, ◌≤◌, ◌<◌}
+-- A number inside is none of those outside; and what the first of a queue says: 0 where the queue is empty, since no process is 0, and else a process.
+-- Assumes nothing.
+use Prim.Native.Nat.{ℕ}
 use native.Mathlib.Omega.{arith}
 use mathlib.Core.Path.{◌≡◌, refl, sym, ◌∙◌}
-use mathlib.Core.Bool.{true, false, or-true}
-use mathlib.Core.Logic.{◌≢◌, ◌⊎◌, inl, inr}
+use mathlib.Core.Bool.{true, false}
+use mathlib.Core.Logic.{◌≢◌}
 use mathlib.Core.List.{List, [], ◌∷◌}
 use Rattle.model.specs.declared.Shape.{Shape}
 use Rattle.model.specs.Queue.{Queue, outside, inside, member, first, first_only}
 use Rattle.model.specs.Machine.{State, model}
-use Rattle.model.proofs.Tests.{eqb_yes, leb_yes, inside_bounds, bounds_inside, not_true}
+use Rattle.model.proofs.Tests.{inside_bounds, not_true}
 use Rattle.model.proofs.Lists.{member_here, first_member}
 use Rattle.area.specs.Holds.{Holds}
 use Rattle.area.proofs.Rings.{member_inside}
 
--- ---- tests on a number
-
-pub zero_outside : (n : ℕ) {i : ℕ} → i ≡ 0 → outside n i ≡ true
-zero_outside n {i} e = rw (eqb_yes i 0 e)
-
-pub above_outside : {n i : ℕ} → n < i → outside n i ≡ true
-above_outside {n} {i} h = rw (leb_yes (suc n) i h, or-true)
-
-module _ (n i : ℕ) where
-  pub is_outside : (i ≡ 0) ⊎ (n < i) → outside n i ≡ true
-  is_outside (inl e) = zero_outside n e
-  is_outside (inr h) = above_outside h
-
-  pub is_inside : i ≢ 0 → i ≤ n → inside n i ≡ true
-  is_inside a b = bounds_inside n i (omega arith) b
-
-  pub not_outside : inside n i ≡ true → outside n i ≡ false
-  not_outside h = not_true (outside n i) h
-
--- ---- the first of a queue
+pub not_outside : (n i : ℕ) → inside n i ≡ true → outside n i ≡ false
+not_outside n i h = not_true (outside n i) h
 
 pub first_only_lem : (xs : List ℕ) {f : ℕ} → f ≡ first xs → f ≢ 0 → first_only xs ≡ f ∷ []
 first_only_lem [] e h = absurd (h e)

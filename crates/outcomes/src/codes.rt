@@ -8,10 +8,7 @@ use model::Refusal;
 pub fn missing(n: u16, i: u16) -> Result<(), Refusal>
     ensures { Missing n i (code_in result) }
 {
-    if i == 0 {
-        return Err(Refusal::NoSuch);
-    }
-    if n < i {
+    if !(1..=n).contains(&i) {
         return Err(Refusal::NoSuch);
     }
     Ok(())
