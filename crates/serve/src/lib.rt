@@ -39,8 +39,7 @@ impl Desk<'_> {
                 print::line(answers::answer(outcome), out)
             }
             None => {
-                out[0] = b'?';
-                out[1] = b'\n';
+                out[..2].copy_from_slice(b"?\n");
                 2
             }
         }
