@@ -1,9 +1,10 @@
 -- What the exports promise: an answer that keeps its promise has fields of so many bits, so it comes back out of its number. Assumes nothing.
 use Prim.Native.Nat.{ℕ}
 use native.Mathlib.Omega.{arith}
-use mathlib.Core.Path.{◌≡◌, refl, sym, ◌∙◌}
+use mathlib.Core.Path.{◌≡◌, refl, sym}
 use mathlib.Core.Bool.{Bool, true, false, true≢false}
 use mathlib.Core.List.{List}
+use mir.Val.{bool_byte}
 use Rattle.model.specs.declared.Shape.{Shape}
 use Rattle.model.specs.declared.Call.{Call}
 use Rattle.model.specs.declared.Answer.{Answer}
@@ -46,8 +47,6 @@ pages {a = a} S e = conveys report_fields a S e (sheets_fits S)
 pub nears : {ws : List ℕ} {a : Earliest} {r : ℕ} → NearestOn ws a → r ≡ packed 20 (nearest_fields a) → Nears ws r
 nears {a = a} N e = conveys nearest_fields a N e (nearest_fits N)
 
-pub judges_yes : {ws : List ℕ} (b : Bool) → (b ≡ true → Sound ws) × (Sound ws → b ≡ true) → b ≡ true → Judges ws 1
-judges_yes b h e = record { says = (λ z. h.0 e, λ S. refl); bit = omega arith }
-
-pub judges_no : {ws : List ℕ} (b : Bool) → (b ≡ true → Sound ws) × (Sound ws → b ≡ true) → b ≡ false → Judges ws 0
-judges_no b h e = record { says = (λ z. absurd (omega arith), λ S. absurd (true≢false (sym (h.1 S) ∙ e))); bit = omega arith }
+pub judges : {ws : List ℕ} (b : Bool) → (b ≡ true → Sound ws) × (Sound ws → b ≡ true) → Judges ws (bool_byte b)
+judges true h = record { says = (λ z. h.0 refl, λ S. refl); bit = omega arith }
+judges false h = record { says = (λ z. absurd (omega arith), λ S. absurd (true≢false (sym (h.1 S)))); bit = omega arith }

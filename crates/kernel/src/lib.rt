@@ -26,10 +26,10 @@ pub fn kernel_start(
     ensures { Begins (record { processes = processes; locks = locks; conditions = conditions; parks = parks }) priorities.now area.old area.new result }
 {
     let shape = Shape {
-        processes: processes,
-        locks: locks,
-        conditions: conditions,
-        parks: parks,
+        processes,
+        locks,
+        conditions,
+        parks,
     };
     wire::pack(answers::answer(start::start(area, shape, priorities)))
 }
@@ -37,10 +37,7 @@ pub fn kernel_start(
 pub fn kernel_sound(area: &[u16]) -> u64
     ensures { Judges area.now result }
 {
-    if sound::sound(area) {
-        return 1;
-    }
-    0
+    u64::from(sound::sound(area))
 }
 
 // ---- the twelve calls
