@@ -100,7 +100,7 @@ fn record_at(shape: Shape, p: u16) -> usize
     requires { inside shape.processes p ≡ true }
     ensures { result ≡ at shape (Link p) }
 {
-    records_at(shape) + (usize::from(p) - 1) * RECORD
+    records_at(shape) + links::link_at(p)
 }
 
 // ---- a part of a word; what narrows is proved to fit, and `as` alone narrows without a branch
@@ -216,8 +216,9 @@ pub fn set_rank(records: &mut [u16], p: u16, v: u16)
     requires fits { v < 8 }
     ensures { (n : Shape) (front : List ℕ) (t : Parts) → length front ≡ records_at n → Image n (front ++ records.old) t → inside n.processes p ≡ true → Stored n (front ++ records.old) (front ++ records.new) (alter (kept (priority p)) v t) }
 {
-    let at = (usize::from(p) - 1) * RECORD;
+    let at = links::link_at(p);
     let link = records[at];
+    // a constant, so `as` is no step that could fail
     records[at] = with_part(link, links::PRIORITY, links::PRIORITIES as u32, v);
 }
 
@@ -227,7 +228,7 @@ fn set_flag(records: &mut [u16], p: u16, unit: u16, value: u16)
     requires is_bit { value < 2 }
     ensures { (n : Shape) (front : List ℕ) (t : Parts) (f : Part) → length front ≡ records_at n → Image n (front ++ records.old) t → inside n.processes p ≡ true → Flag p f unit → Stored n (front ++ records.old) (front ++ records.new) (alter f value t) }
 {
-    let at = (usize::from(p) - 1) * RECORD + links::FLAGS;
+    let at = links::link_at(p) + links::FLAGS;
     let flags = records[at];
     records[at] = with_part(flags, unit, layout::BIT, value);
 }
@@ -246,7 +247,7 @@ pub fn set_awake(records: &mut [u16], p: u16)
     requires { (n : Shape) × (front : List ℕ) × (t : Parts) × (length front ≡ records_at n) × Image n (front ++ records.old) t × (inside n.processes p ≡ true) }
     ensures { (n : Shape) (front : List ℕ) (t : Parts) → length front ≡ records_at n → Image n (front ++ records.old) t → inside n.processes p ≡ true → Stored n (front ++ records.old) (front ++ records.new) (alter (waiting p) 0 (alter (kept (armed p)) 0 (alter (kept (timer p)) 0 t))) }
 {
-    let at = (usize::from(p) - 1) * RECORD + links::TIMER;
+    let at = links::link_at(p) + links::TIMER;
     records[at] = 0;
     set_flag(records, p, links::ARMED, 0);
     set_waiting(records, p, 0);

@@ -6,7 +6,7 @@ use Rattle.area.proofs.set_flag.Goals as goal
 pub with_part-requires : goal.with_part-requires
 with_part-requires c =
     let r = lent_flag_room c.requires.image.1 _ c.requires.image.4 c.requires.image.5 c.requires.image.6 c.requires.image.3 c.requires.image.7 c.requires.is_bit in
-    (omega arith, r.0, r.1, rw c.from.ensures r.2)
+    (omega arith, r.0, r.1, rw c.link_at-at.ensures r.2)
 
 pub returns : goal.returns
-returns c n front t f fits im h F = rw c.from.ensures (lent_flag front _ fits im h f F c.requires.is_bit _ (rw c.from.ensures at c.with_part.ensures))
+returns c n front t f fits im h F = rw c.link_at-at.ensures (lent_flag front _ fits im h f F c.requires.is_bit _ (rw c.link_at-at.ensures at c.with_part.ensures))
