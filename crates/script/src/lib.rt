@@ -7,6 +7,9 @@ ghost use Rattle.script.specs.Read.{Tells};
 
 use model::{Call, Priority, Process, Shape, Ticks};
 
+// How many bytes the longest line has that means anything; a number takes one at least.
+const LONGEST: usize = 8192;
+
 // The first word of a line.
 #[derive(Clone, Copy)]
 pub enum Name {
@@ -49,7 +52,7 @@ const NAMES: [(&[u8], Name); 13] = [
     (b"reenter", Name::Reenter),
 ];
 
-// The name beside the first of these words that is this one.
+// The name beside the first of these words that is this one. No `find` and `map`: tried, and from the search along the table to `beside` the proof is longer than this loop with its own.
 fn name_beside(rows: &[(&[u8], Name)], word: &[u8]) -> Option<Name>
     ensures { result ≡ beside word.now (map (λ r. (r.0.now, r.1)) rows.now) }
 {
@@ -119,7 +122,7 @@ pub fn parse(line: &[u8], table: &mut [u16], bytes: &mut [u8]) -> Option<Line>
     requires bytes_fit { 8192 ≤ length bytes.old }
     ensures { Tells result bytes.new (meaning line.now) }
 {
-    if line.len() > 8192 {
+    if line.len() > LONGEST {
         return None;
     }
     let end = words::word_end(line, 0);

@@ -66,7 +66,7 @@ pub fn numbers(line: &[u8], from: usize, table: &mut [u16]) -> Option<usize>
     Some(count)
 }
 
-// Whether each of these numbers is a byte; they are put at the front of `bytes`.
+// Whether each of these numbers is a byte; they are put at the front of `bytes`. By index: tried with `iter_mut` and `zip`, and of what is written through those a proof knows no byte.
 pub fn put_bytes(numbers: &[u16], bytes: &mut [u8]) -> bool
     requires { length numbers.now ≤ length bytes.old }
     ensures { Bytes result numbers.now bytes.new }
