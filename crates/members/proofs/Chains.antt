@@ -5,7 +5,8 @@ use native.Mathlib.Omega.{arith}
 use mathlib.Core.Path.{◌≡◌, refl, sym, ◌∙◌}
 use mathlib.Core.Bool.{Bool, true, false}
 use mathlib.Core.List.{List, [], ◌∷◌}
-use mathlib.Core.Option.{some, none-ne-some, some-injective}
+use Rattle.std.proofs.Common.{Some}
+use Rattle.std.proofs.lemmas.Option.{none-some, same_Some}
 use lib.Dec.{eqb}
 use lib.ListN.{length, get_or}
 use Rattle.model.specs.Queue.{inside, bit, member, count, All, Falling}
@@ -76,19 +77,19 @@ module _ (rs : List ℕ) (P k o t : ℕ) where
   abbrev pr : ℕ → ℕ
   pr y = priority rs y
 
-  walk_read : (n p b : ℕ) (js js' : List ℕ) → walked rs P k o t n p b js ≡ some js' → Read rs P k o t p b js js'
+  walk_read : (n p b : ℕ) (js js' : List ℕ) → walked rs P k o t n p b js ≡ Some js' → Read rs P k o t p b js js'
   unfolding onto priority
-  walk_read zero p b js js' w = absurd (none-ne-some js' (sym (walk_out rs P k o t 0 p b js (omega arith)) ∙ w))
+  walk_read zero p b js js' w = absurd (none-some js' (sym (walk_out rs P k o t 0 p b js (omega arith)) ∙ w))
   walk_read (suc n) p b js js' w = go (is_fresh P o p js) refl (fits_in rs k b p) refl (ℕ_discrete p t) (walk_read n (next rs p) (pr p) (p ∷ js) js')
     where
       go : (f : Bool) → is_fresh P o p js ≡ f → (g : Bool) → fits_in rs k b p ≡ g → Dec (p ≡ t)
-          → (walked rs P k o t n (next rs p) (pr p) (p ∷ js) ≡ some js' → Read rs P k o t (next rs p) (pr p) (p ∷ js) js') → Read rs P k o t p b js js'
-      go false ef g eg d ih = absurd (none-ne-some js' (sym (walk_stale rs P k o t (suc n) p b js ef) ∙ w))
-      go true ef false eg d ih = absurd (none-ne-some js' (sym (walk_unfit rs P k o t (suc n) p b js eg) ∙ w))
+          → (walked rs P k o t n (next rs p) (pr p) (p ∷ js) ≡ Some js' → Read rs P k o t (next rs p) (pr p) (p ∷ js) js') → Read rs P k o t p b js js'
+      go false ef g eg d ih = absurd (none-some js' (sym (walk_stale rs P k o t (suc n) p b js ef) ∙ w))
+      go true ef false eg d ih = absurd (none-some js' (sym (walk_unfit rs P k o t (suc n) p b js eg) ∙ w))
       go true ef true eg (yes e) ih =
           let f = fresh_is P o p js ef in
           let g = fitting_is k b (link rs p) (get_or rs (slot p + 1) 0) (get_or rs (slot p + 2) 0) eg in
-          let d = some-injective js' (p ∷ js) (sym w ∙ walk_last rs P k o t (suc n) p b js (omega arith) ef eg e) in
+          let d = same_Some js' (p ∷ js) (sym w ∙ walk_last rs P k o t (suc n) p b js (omega arith) ef eg e) in
           record {
             rest = [];
             linked = tt;
@@ -121,12 +122,12 @@ pub record Accepted (rs : List ℕ) (P k o t : ℕ) (js js' : List ℕ) : Type 0
   pub done : js' ≡ onto ys js
   pub once : Once js → Once js'
 
-pub ring_read : (rs : List ℕ) (P k o t : ℕ) (js js' : List ℕ) → ringed rs P k o t js ≡ some js' → Accepted rs P k o t js js'
+pub ring_read : (rs : List ℕ) (P k o t : ℕ) (js js' : List ℕ) → ringed rs P k o t js ≡ Some js' → Accepted rs P k o t js js'
 unfolding onto
 ring_read rs P k o t js js' w = go (ℕ_discrete t 0)
   where
     go : Dec (t ≡ 0) → Accepted rs P k o t js js'
-    go (yes e) = let d = some-injective js' js (sym w ∙ ring_empty rs P k o t js e) in
+    go (yes e) = let d = same_Some js' js (sym w ∙ ring_empty rs P k o t js e) in
         record { ys = []; ring = record { linked = tt; ends = sym e; members = tt; falls = tt }; done = d; once = λ h. rw d h }
     go (no n) =
         let d = walk_read rs P k o t (P - length js) (next rs t) 7 js js' (sym (ring_walk rs P k o t js n) ∙ w) in
@@ -140,7 +141,7 @@ new_one p rest js c = let a = c p in let b = member_count p (p ∷ rest) (member
 module _ (rs : List ℕ) (P k o t : ℕ) where
   walk_full : (rest : List ℕ) (n p b : ℕ) (js : List ℕ) → Linked (next rs) p rest → last_of p rest ≡ t → All (Member rs P k o) (p ∷ rest)
       → priority rs p ≤ b → Falling (λ y. priority rs y) (p ∷ rest) → ((x : ℕ) → count x (p ∷ rest) + count x js ≤ 1) → length (p ∷ rest) ≤ n
-      → walked rs P k o t n p b js ≡ some (onto (p ∷ rest) js)
+      → walked rs P k o t n p b js ≡ Some (onto (p ∷ rest) js)
   unfolding onto priority
   walk_full [] n p b js l e m h f c s =
       walk_last rs P k o t n p b js (omega arith) (is_fresh_lem P o p js (record { within = m.0.within; free = m.0.free; new = new_one p [] js c }))
@@ -151,7 +152,7 @@ module _ (rs : List ℕ) (P k o t : ℕ) where
       (is_fitting k b _ _ _ h m.0.fits) (λ d. once_apart p (y ∷ rest) once (last_of y rest) (last_member y rest) (d ∙ sym e))
       ∙ rw l.0 (walk_full rest (n - 1) y (priority rs p) (p ∷ js) l.1 e m.1 f.0.0 f.1 (λ x. let a = c x in omega arith) (omega arith))
 
-  pub ring_full : Words rs → (ys js : List ℕ) → Ringed rs P k o t ys → ((x : ℕ) → count x ys + count x js ≤ bit (inside P x)) → ringed rs P k o t js ≡ some (onto ys js)
+  pub ring_full : Words rs → (ys js : List ℕ) → Ringed rs P k o t ys → ((x : ℕ) → count x ys + count x js ≤ bit (inside P x)) → ringed rs P k o t js ≡ Some (onto ys js)
   unfolding onto priority
   ring_full small [] js R c = ring_empty rs P k o t js (sym R.ends)
   ring_full small (y ∷ ys) js R c =

@@ -99,9 +99,9 @@ get_d_clear (suc n) zero = refl
 get_d_clear (suc n) (suc i) = get_d_clear n i
 
 -- the clear table
-unfoldable pub clear : List ℕ
+abbrev pub clear : List ℕ
 clear = replicate 16 0
 
 pub table_clear : Table clear []
-unfolding clear met_in
+unfolding met_in
 table_clear = record { long = refl; says = λ p l. rw (get_d_clear 16 (p / 64), zero-div (2 ^ (p % 64))) }

@@ -1,7 +1,6 @@
 -- The walk of a ring as a function on the records, with the tests that the code has. What it hands on are the processes met, the
--- last one first; none where a test fails. The kind of the ring's queue is a number: 0 ready and the parks, 1 the locks, 2 the conditions. Assumes nothing.
-use Rattle.std.specs.Prelude.{ℕ, zero, suc, ◌+◌, ◌-◌, ◌/◌, ◌%◌, ◌≤◌, ◌≡◌, Bool, not, ◌&&◌, ◌||◌, cond, List, ◌∷◌, eqb, leb, length, get_or}
-use Rattle.std.proofs.Math.Option.{Option, none, some}
+-- last one first; None where a test fails. The kind of the ring's queue is a number: 0 ready and the parks, 1 the locks, 2 the conditions. Assumes nothing.
+use Rattle.std.specs.Prelude.{ℕ, zero, suc, ◌+◌, ◌-◌, ◌/◌, ◌%◌, ◌≤◌, ◌≡◌, Bool, not, ◌&&◌, ◌||◌, cond, List, ◌∷◌, Option, None, Some, eqb, leb, length, get_or}
 use Rattle.model.specs.Queue.{inside, member}
 use Rattle.links.specs.Link.{slot, link, next, priority}
 use Rattle.members.specs.Marks.{Table}
@@ -36,14 +35,14 @@ fits_in rs k b p = fitting k (link rs p) (get_or rs (slot p + 1) 0) (get_or rs (
 
 -- from p on to the tail t, at most n processes, behind a priority b
 unfoldable pub walked : List ℕ → ℕ → ℕ → ℕ → ℕ → ℕ → ℕ → ℕ → List ℕ → Option (List ℕ)
-walked rs P k o t zero p b js = none
+walked rs P k o t zero p b js = None
 walked rs P k o t (suc n) p b js =
     cond (is_fresh P o p js && fits_in rs k b p)
-    (cond (eqb p t) (some (p ∷ js)) (walked rs P k o t n (next rs p) (priority rs p) (p ∷ js))) none
+    (cond (eqb p t) (Some (p ∷ js)) (walked rs P k o t n (next rs p) (priority rs p) (p ∷ js))) None
 
 -- a whole ring, by its tail
 unfoldable pub ringed : List ℕ → ℕ → ℕ → ℕ → ℕ → List ℕ → Option (List ℕ)
-ringed rs P k o t js = cond (eqb t 0) (some js) (walked rs P k o t (P - length js) (next rs t) 7 js)
+ringed rs P k o t js = cond (eqb t 0) (Some js) (walked rs P k o t (P - length js) (next rs t) 7 js)
 
 -- ---- answers
 
@@ -53,7 +52,7 @@ pub record Met (P : ℕ) (ms js : List ℕ) (m : ℕ) : Type 0 where
   pub counts : m ≡ length js
   pub few : m ≤ P
 
--- the answer of a check, and the table that it leaves: the number of processes met, or 1,024
-abbrev pub Told : ℕ → ℕ → List ℕ → Option (List ℕ) → Type 0
-Told P r ms none = r ≡ 1024
-Told P r ms (some js) = Met P ms js r
+-- the answer of a check, and the table that it leaves: the number of processes met, if no test fails
+abbrev pub Told : ℕ → Option ℕ → List ℕ → Option (List ℕ) → Type 0
+Told P r ms None = r ≡ None
+Told P r ms (Some js) = (m : ℕ) × (r ≡ Some m) × Met P ms js m

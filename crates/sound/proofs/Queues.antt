@@ -5,12 +5,13 @@ use native.Mathlib.Decide.{ℕ_discrete}
 use native.Mathlib.Omega.{arith}
 use borrow.Rule.Slice.PartMut.{mid_of}
 use mathlib.Core.Path.{◌≡◌, refl, sym, ◌∙◌, ap}
-use mathlib.Core.Bool.{Bool, true, false, not, cond}
+use mathlib.Core.Bool.{Bool, true, false, cond}
 use mathlib.Core.List.{List, [], ◌∷◌, ◌++◌}
-use mathlib.Core.Option.{Option, none, some}
+use Rattle.std.proofs.Common.{Option, None, Some}
+use Rattle.std.proofs.lemmas.Option.{none-some, same_Some}
+use lib.Bits.{bit_and, and_mask}
 use lib.ListN.{length, get_or, drop, length-drop}
 use lib.Seq.{get_or-drop}
-use borrow.Author.Tests.{not-true, not-false}
 use Rattle.model.specs.declared.Shape.{Shape}
 use Rattle.model.specs.Queue.{Queue, inside}
 use Rattle.model.specs.Queue.Queue.{ready, park, lock, condition}
@@ -32,30 +33,39 @@ use Rattle.members.proofs.Chains.{Words}
 use Rattle.members.proofs.Walks.{told_none, told_some}
 use Rattle.sound.specs.Passed.{queued, then, passed}
 
+-- ---- the test of a queue's words, asked with P masked, which leaves it as it was
+
+module _ (P k w v : ℕ) (few : P < 1024) (ok : Bool) (tested : ok ≡ heading (bit_and P 1023) k w v) where
+  unmasked : ok ≡ heading P k w v
+  unmasked = let e : bit_and P 1023 ≡ P = and_mask P 10 ∙ omega arith in rw e at tested
+
+  pub tail_within : ok ≡ true → w / 8 ≤ P
+  tail_within x = (heading_is P k w v (sym unmasked ∙ x)).tail
+
 -- ---- a pass underway
 
 -- the first i queues are passed, of those that js₀ leaves
 pub record Passed (hs rs : List ℕ) (P k i : ℕ) (ms : List ℕ) (m : ℕ) (js₀ : List ℕ) : Type 0 where
   pub js : List ℕ
   pub met : Met P ms js m
-  pub so : passed hs rs P k i js₀ ≡ some js
+  pub so : passed hs rs P k i js₀ ≡ Some js
 
 module _ (hs rs : List ℕ) (P k : ℕ) where
   pub passed_none : (ms : List ℕ) (m : ℕ) (js : List ℕ) → Met P ms js m → Passed hs rs P k 0 ms m js
   unfolding passed
   passed_none ms m js t = record { js = js; met = t; so = refl }
 
-  pub passed_all : (i n : ℕ) (ms : List ℕ) (m : ℕ) (js : List ℕ) → Passed hs rs P k i ms m js → i ≤ n → n ≤ i → Told P m ms (passed hs rs P k n js)
+  pub passed_all : (i n : ℕ) (ms : List ℕ) (m : ℕ) (js : List ℕ) → Passed hs rs P k i ms m js → i ≤ n → n ≤ i → Told P (Some m) ms (passed hs rs P k n js)
   passed_all i n ms m js p a b =
       let e : i ≡ n = omega arith in
       told_some P m ms p.js _ (rw e at p.so) p.met
 
   -- one queue more, and none after one that breaks off
-  passed_more : (i : ℕ) (js is : List ℕ) → passed hs rs P k i js ≡ some is → passed hs rs P k (i + 1) js ≡ queued hs rs P k (head_at k i) is
+  passed_more : (i : ℕ) (js is : List ℕ) → passed hs rs P k i js ≡ Some is → passed hs rs P k (i + 1) js ≡ queued hs rs P k (head_at k i) is
   unfolding passed
   passed_more i js is e = rw (add-one, e)
 
-  passed_stops : (i n : ℕ) (js : List ℕ) → i ≤ n → passed hs rs P k i js ≡ none → passed hs rs P k n js ≡ none
+  passed_stops : (i n : ℕ) (js : List ℕ) → i ≤ n → passed hs rs P k i js ≡ None → passed hs rs P k n js ≡ None
   unfolding passed
   passed_stops i zero js l e = let z : i ≡ 0 = omega arith in rw z at e
   passed_stops i (suc n) js l e = elim (ℕ_discrete i (suc n)) [
@@ -63,55 +73,58 @@ module _ (hs rs : List ℕ) (P k : ℕ) where
     | no d ↦ rw (passed_stops i n js (omega arith) e)
   ]
 
-  queued_is : (a w v : ℕ) (js : List ℕ) → w ≡ get_or hs a 0 → v ≡ holder_in hs k a → queued hs rs P k a js ≡ cond (heading P k w v) (ringed rs P k (v / 8) (w / 8) js) none
+  queued_is : (a w v : ℕ) (js : List ℕ) → w ≡ get_or hs a 0 → v ≡ holder_in hs k a → queued hs rs P k a js ≡ cond (heading P k w v) (ringed rs P k (v / 8) (w / 8) js) None
   unfolding queued
   queued_is a w v js e d = rw (e, d)
 
   module _ (i a w v : ℕ) (e : a ≡ head_at k i) (d : w ≡ get_or hs a 0) (f : v ≡ holder_in hs k a) (n : ℕ) (below : i < n)
       (ms : List ℕ) (m : ℕ) (js₀ : List ℕ) (p : Passed hs rs P k i ms m js₀) where
-    here : passed hs rs P k (i + 1) js₀ ≡ cond (heading P k w v) (ringed rs P k (v / 8) (w / 8) p.js) none
+    here : passed hs rs P k (i + 1) js₀ ≡ cond (heading P k w v) (ringed rs P k (v / 8) (w / 8) p.js) None
     here = passed_more i js₀ p.js p.so ∙ rw (← e) (queued_is a w v p.js d f)
 
     -- an empty queue
     pub passed_empty : is_vacant k w ≡ true → v ≡ 0 → Passed hs rs P k (i + 1) ms m js₀
     passed_empty z o = record { js = p.js; met = p.met; so = here ∙ rw (← head_empty P k w v z o) (ring_empty rs P k (v / 8) (w / 8) p.js (vacant_is P k w v z).0) }
 
-    pub passed_held : (ms' : List ℕ) → is_vacant k w ≡ true → (v ≡ 0 → ⊥) → Told P 1024 ms' (passed hs rs P k n js₀)
+    pub passed_held : (ms' : List ℕ) → is_vacant k w ≡ true → (v ≡ 0 → ⊥) → Told P None ms' (passed hs rs P k n js₀)
     passed_held ms' z o = told_none P ms' _ (passed_stops (i + 1) n js₀ (omega arith) (here ∙ rw (← head_empty_held P k w v z o)))
 
-    module _ (ok : Bool) (is_ok : ok ≡ heading P k w v) where
-      pub passed_odd : (ms' : List ℕ) → not ok ≡ true → Told P 1024 ms' (passed hs rs P k n js₀)
+    module _ (few : P < 1024) (ok : Bool) (tested : ok ≡ heading (bit_and P 1023) k w v) where
+      pub passed_odd : (ms' : List ℕ) → ok ≡ false → Told P None ms' (passed hs rs P k n js₀)
       passed_odd ms' x =
-          let no : heading P k w v ≡ false = sym is_ok ∙ not-true ok x in
+          let no : heading P k w v ≡ false = sym (unmasked P k w v few ok tested) ∙ x in
           told_none P ms' _ (passed_stops (i + 1) n js₀ (omega arith) (here ∙ rw no))
 
       -- past the test the holder o and the tail t, as they are read, are all that stands above the bits below them
-      module _ (x : not ok ≡ false) (few : P < 1024) (o t : ℕ) (holder : o ≡ v / 8 % 1024) (tail : t ≡ w / 8 % 1024)
-          (c : ℕ) (ms' : List ℕ) (told : (js : List ℕ) → Met P ms js m → Told P c ms' (ringed rs P k o t js)) where
-        after : passed hs rs P k (i + 1) js₀ ≡ ringed rs P k o t p.js
-        after =
-            let yes : heading P k w v ≡ true = sym is_ok ∙ not-false ok x in
-            let h = heading_is P k w v yes in
-            let reads_holder : v / 8 ≡ o = omega (arith, h.holder) in
-            let reads_tail : w / 8 ≡ t = omega (arith, h.tail) in
-            here ∙ rw (yes, reads_holder, reads_tail)
+      module _ (x : ok ≡ true) where
+        accepted : heading P k w v ≡ true
+        accepted = sym (unmasked P k w v few ok tested) ∙ x
 
-        pub passed_broken : (ms'' : List ℕ) → c ≡ 1024 → Told P 1024 ms'' (passed hs rs P k n js₀)
-        passed_broken ms'' z = go (ringed rs P k o t p.js) after (told p.js p.met)
-          where
-            go : (out : Option (List ℕ)) → passed hs rs P k (i + 1) js₀ ≡ out → Told P c ms' out → Told P 1024 ms'' (passed hs rs P k n js₀)
-            go none q t = told_none P ms'' _ (passed_stops (i + 1) n js₀ (omega arith) q)
-            go (some js) q t = absurd (omega arith)
+        module _ (o t : ℕ) (holder : o ≡ v / 8 % 1024) (tail : t ≡ w / 8 % 1024)
+            (c : Option ℕ) (ms' : List ℕ) (told : (js : List ℕ) → Met P ms js m → Told P c ms' (ringed rs P k o t js)) where
+          after : passed hs rs P k (i + 1) js₀ ≡ ringed rs P k o t p.js
+          after =
+              let h = heading_is P k w v accepted in
+              let reads_holder : v / 8 ≡ o = omega arith in
+              let reads_tail : w / 8 ≡ t = omega arith in
+              here ∙ rw (accepted, reads_holder, reads_tail)
 
-        pub passed_on : (c ≡ 1024 → ⊥) → Passed hs rs P k (i + 1) ms' c js₀
-        passed_on z = go (ringed rs P k o t p.js) after (told p.js p.met)
-          where
-            go : (out : Option (List ℕ)) → passed hs rs P k (i + 1) js₀ ≡ out → Told P c ms' out → Passed hs rs P k (i + 1) ms' c js₀
-            go none q t = absurd (z t)
-            go (some js) q t = record { js = js; met = t; so = q }
+          pub passed_broken : (ms'' : List ℕ) → c ≡ None → Told P None ms'' (passed hs rs P k n js₀)
+          passed_broken ms'' z = go (ringed rs P k o t p.js) after (told p.js p.met)
+            where
+              go : (out : Option (List ℕ)) → passed hs rs P k (i + 1) js₀ ≡ out → Told P c ms' out → Told P None ms'' (passed hs rs P k n js₀)
+              go None q u = told_none P ms'' _ (passed_stops (i + 1) n js₀ (omega arith) q)
+              go (Some js) q u = absurd (none-some u.0 (sym z ∙ u.1))
+
+          pub passed_on : (m' : ℕ) → c ≡ Some m' → Passed hs rs P k (i + 1) ms' m' js₀
+          passed_on m' z = go (ringed rs P k o t p.js) after (told p.js p.met)
+            where
+              go : (out : Option (List ℕ)) → passed hs rs P k (i + 1) js₀ ≡ out → Told P c ms' out → Passed hs rs P k (i + 1) ms' m' js₀
+              go None q u = absurd (none-some m' (sym u ∙ z))
+              go (Some js) q u = record { js = js; met = rw (same_Some m' u.0 (sym z ∙ u.1)) u.2; so = q }
 
 -- none is passed before the first
-pub from_none : (hs rs : List ℕ) (P k n c₀ c : ℕ) (ms₀ ms : List ℕ) → ((js is : List ℕ) → passed hs rs P k 0 js ≡ some is → Met P ms₀ is c₀ → Told P c ms (passed hs rs P k n js))
+pub from_none : (hs rs : List ℕ) (P k n c₀ : ℕ) (c : Option ℕ) (ms₀ ms : List ℕ) → ((js is : List ℕ) → passed hs rs P k 0 js ≡ Some is → Met P ms₀ is c₀ → Told P c ms (passed hs rs P k n js))
     → (js : List ℕ) → Met P ms₀ js c₀ → Told P c ms (passed hs rs P k n js)
 unfolding passed
 from_none hs rs P k n c₀ c ms₀ ms t js T = t js js refl T
@@ -139,11 +152,11 @@ holder_word ws (condition c) = 0
 unfoldable pub visit : List ℕ → Queue → List ℕ → Option (List ℕ)
 visit ws q js =
     cond (heading (shape_of ws).processes (kind_of q) (tail_word ws q) (holder_word ws q))
-    (ringed (records (shape_of ws) ws) (shape_of ws).processes (kind_of q) (holder_word ws q / 8) (tail_word ws q / 8) js) none
+    (ringed (records (shape_of ws) ws) (shape_of ws).processes (kind_of q) (holder_word ws q / 8) (tail_word ws q / 8) js) None
 
 -- some queues, in their order
 unfoldable pub visits : List ℕ → List Queue → List ℕ → Option (List ℕ)
-visits ws [] js = some js
+visits ws [] js = Some js
 visits ws (q ∷ qs) js = then (visit ws q js) (visits ws qs)
 
 pub visits_append : (ws : List ℕ) (xs ys : List Queue) (js : List ℕ) → visits ws (xs ++ ys) js ≡ then (visits ws xs js) (visits ws ys)
@@ -152,12 +165,12 @@ visits_append ws [] ys js = refl
 visits_append ws (x ∷ xs) ys js = go (visit ws x js) (visits_append ws xs ys)
   where
     go : (o : Option (List ℕ)) → ((is : List ℕ) → visits ws (xs ++ ys) is ≡ then (visits ws xs is) (visits ws ys)) → then o (visits ws (xs ++ ys)) ≡ then (then o (visits ws xs)) (visits ws ys)
-    go none ih = refl
-    go (some is) ih = ih is
+    go None ih = refl
+    go (Some is) ih = ih is
 
-then_some : (o : Option (List ℕ)) → then o (λ js. some js) ≡ o
-then_some none = refl
-then_some (some js) = refl
+then_some : (o : Option (List ℕ)) → then o (λ js. Some js) ≡ o
+then_some None = refl
+then_some (Some js) = refl
 
 -- ---- by kind and number
 
@@ -232,22 +245,18 @@ module _ (ws : List ℕ) where
     passed_visits (suc m) js = rw (visits_append ws (queues_of k m) (queue_at k m ∷ []) js, passed_visits m js) (go (visits ws (queues_of k m) js))
       where
         go : (o : Option (List ℕ)) → then o (queued hs (records n ws) n.processes k (head_at k m)) ≡ then o (visits ws (queue_at k m ∷ []))
-        go none = refl
-        go (some is) = queued_visit m is ∙ sym (then_some (visit ws (queue_at k m) is))
+        go None = refl
+        go (Some is) = queued_visit m is ∙ sym (then_some (visit ws (queue_at k m) is))
 
 -- ---- the words of a kind and the records, lent
 
 -- an area is as long as its counts ask
-pub counted_long : {n : Shape} {ws : List ℕ} → n ≡ shape_of ws → Counted ws → size n ≤ length ws
+counted_long : {n : Shape} {ws : List ℕ} → n ≡ shape_of ws → Counted ws → size n ≤ length ws
 counted_long e c = rw e c.long
 
 -- the words from a on, lent
 abbrev pub from : List ℕ → ℕ → List ℕ
 from ws a = mid_of a (length ws - a) ws
-
--- from 0 on they are all
-pub lent_small : (ws : List ℕ) → Words ws → Words (from ws 0)
-lent_small ws h = rw (part_lent 0 ws) h
 
 -- by the counts n that the words say, and the address r of the records
 module _ (ws : List ℕ) {n : Shape} (e : n ≡ shape_of ws) {r : ℕ} (there : r ≡ records_at n) where
@@ -257,7 +266,7 @@ module _ (ws : List ℕ) {n : Shape} (e : n ≡ shape_of ws) {r : ℕ} (there : 
   pub lent_runs : (b : Bool) → Decides b (Runs ws (from ws r)) → Decides b (Runs ws (records (shape_of ws) ws))
   lent_runs b d = rw (there, e, part_lent (records_at (shape_of ws)) ws) at d
 
-  pub lent_visits : (k : ℕ) → k ≤ 2 → {a : ℕ} → a ≡ begins n k → (c₀ c : ℕ) (ms₀ ms : List ℕ)
+  pub lent_visits : (k : ℕ) → k ≤ 2 → {a : ℕ} → a ≡ begins n k → (c₀ : ℕ) (c : Option ℕ) (ms₀ ms : List ℕ)
       → ((js : List ℕ) → Met n.processes ms₀ js c₀ → Told n.processes c ms (passed (from ws a) (from ws r) n.processes k (number_of n k) js))
       → (js : List ℕ) → Met (get_or ws 0 0) ms₀ js c₀ → Told (get_or ws 0 0) c ms (visits ws (queues_of k (number_of (shape_of ws) k)) js)
   lent_visits k h here c₀ c ms₀ ms t js T =

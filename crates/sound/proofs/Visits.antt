@@ -5,7 +5,8 @@ use mathlib.Core.Path.{◌≡◌, refl, sym, ◌∙◌, ap}
 use mathlib.Core.Logic.{◌≢◌, inl, inr}
 use mathlib.Core.Bool.{Bool, true, false, ◌&&◌, cond}
 use mathlib.Core.List.{List, [], ◌∷◌}
-use mathlib.Core.Option.{Option, none, some, none-ne-some, some-injective}
+use Rattle.std.proofs.Common.{Option, None, Some}
+use Rattle.std.proofs.lemmas.Option.{none-some, same_Some}
 use lib.ListN.{get_or}
 use lib.Seq.{get_or-drop}
 use Rattle.model.specs.Queue.{Queue, inside, bit, same, exists, member, count, All}
@@ -99,12 +100,12 @@ record Visit (ws : List ℕ) (q : Queue) (js js' : List ℕ) : Type 0 where
   counts : (x : ℕ) → count x js' ≡ count x (reading ws q) + count x js
   once : Once js'
 
-visit_read : (ws : List ℕ) (q : Queue) (js js' : List ℕ) → exists (shape_of ws) q ≡ true → get_or ws 0 0 ≤ 1023 → Once js → visit ws q js ≡ some js' → Visit ws q js js'
+visit_read : (ws : List ℕ) (q : Queue) (js js' : List ℕ) → exists (shape_of ws) q ≡ true → get_or ws 0 0 ≤ 1023 → Once js → visit ws q js ≡ Some js' → Visit ws q js js'
 unfolding visit
 visit_read ws q js js' h s once w = go (heading (get_or ws 0 0) (kind_of q) (tail_word ws q) (holder_word ws q)) refl
   where
     go : (b : Bool) → heading (get_or ws 0 0) (kind_of q) (tail_word ws q) (holder_word ws q) ≡ b → Visit ws q js js'
-    go false e = absurd (none-ne-some js' (rw e at w))
+    go false e = absurd (none-some js' (rw e at w))
     go true e =
         let d = heading_is (get_or ws 0 0) (kind_of q) (tail_word ws q) (holder_word ws q) e in
         let a = ring_read (records (shape_of ws) ws) (get_or ws 0 0) (kind_of q) (holder_word ws q / 8) (tail_word ws q / 8) js js' (rw e at w) in
@@ -112,7 +113,7 @@ visit_read ws q js js' h s once w = go (heading (get_or ws 0 0) (kind_of q) (tai
         let r = read_queue ws q (kind_of q) (holder_word ws q / 8) a.ys h s d.tail (λ x. let y = a.once once x in let z = sum x in omega arith) a.ring in
         record { visited = record { head = d; ring = rw r a.ring }; counts = λ x. rw r (sum x); once = a.once once }
 
-visit_full : (ws : List ℕ) (q : Queue) (js : List ℕ) → Words ws → Visited ws q → ((x : ℕ) → count x (reading ws q) + count x js ≤ bit (inside (get_or ws 0 0) x)) → visit ws q js ≡ some (onto (reading ws q) js)
+visit_full : (ws : List ℕ) (q : Queue) (js : List ℕ) → Words ws → Visited ws q → ((x : ℕ) → count x (reading ws q) + count x js ≤ bit (inside (get_or ws 0 0) x)) → visit ws q js ≡ Some (onto (reading ws q) js)
 unfolding visit
 visit_full ws q js small v c =
     rw (is_heading (get_or ws 0 0) (kind_of q) (tail_word ws q) (holder_word ws q) v.head)
@@ -138,21 +139,21 @@ pub record AllVisited (ws : List ℕ) (qs : List Queue) (js js' : List ℕ) : Ty
   pub counts : (x : ℕ) → count x js' ≡ total ws x qs + count x js
   pub once : Once js'
 
-pub visits_read : (ws : List ℕ) (qs : List Queue) (js js' : List ℕ) → All (λ q. exists (shape_of ws) q ≡ true) qs → get_or ws 0 0 ≤ 1023 → Once js → visits ws qs js ≡ some js' → AllVisited ws qs js js'
+pub visits_read : (ws : List ℕ) (qs : List Queue) (js js' : List ℕ) → All (λ q. exists (shape_of ws) q ≡ true) qs → get_or ws 0 0 ≤ 1023 → Once js → visits ws qs js ≡ Some js' → AllVisited ws qs js js'
 unfolding visits
-visits_read ws [] js js' h s once w = let d = some-injective js' js (sym w) in record { each = tt; counts = λ x. rw d (omega arith); once = rw d once }
+visits_read ws [] js js' h s once w = let d = same_Some js' js (sym w) in record { each = tt; counts = λ x. rw d (omega arith); once = rw d once }
 visits_read ws (q ∷ qs) js js' h s once w = go (visit ws q js) refl w (λ is. visits_read ws qs is js' h.1 s)
   where
-    go : (out : Option (List ℕ)) → visit ws q js ≡ out → then out (visits ws qs) ≡ some js' → ((is : List ℕ) → Once is → visits ws qs is ≡ some js' → AllVisited ws qs is js') → AllVisited ws (q ∷ qs) js js'
-    go none e v ih = absurd (none-ne-some js' v)
-    go (some is) e v ih =
+    go : (out : Option (List ℕ)) → visit ws q js ≡ out → then out (visits ws qs) ≡ Some js' → ((is : List ℕ) → Once is → visits ws qs is ≡ Some js' → AllVisited ws qs is js') → AllVisited ws (q ∷ qs) js js'
+    go None e v ih = absurd (none-some js' v)
+    go (Some is) e v ih =
         let a = visit_read ws q js is h.0 s once e in
         let b = ih is a.once v in
         record { each = (a.visited, b.each); counts = λ x. let c = a.counts x in let d = b.counts x in omega arith; once = b.once }
 
 pub record Full (ws : List ℕ) (qs : List Queue) (js : List ℕ) : Type 0 where
   pub left : List ℕ
-  pub is : visits ws qs js ≡ some left
+  pub is : visits ws qs js ≡ Some left
   pub counts : (x : ℕ) → count x left ≡ total ws x qs + count x js
 
 pub visits_full : (ws : List ℕ) (qs : List Queue) (js : List ℕ) → Words ws → All (Visited ws) qs → ((x : ℕ) → total ws x qs + count x js ≤ bit (inside (get_or ws 0 0) x)) → Full ws qs js

@@ -1,9 +1,13 @@
 -- `heads::head_at` meets its contract: the two cases of `head_at`. Assumes nothing.
-use Rattle.heads.proofs.Steps.{head_at_lock, head_at_other}
+use Rattle.std.proofs.Common.{arith}
+use Rattle.std.proofs.lemmas.Grind.{common_steps}
+use Rattle.heads.specs.Heads.{head_at}
 use Rattle.heads.proofs.head_at.Goals as goal
 
-pub returns-then-kind-eq-LOCK : goal.returns-then-kind-eq-LOCK
-returns-then-kind-eq-LOCK c = head_at_lock _ _ c.if-kind-eq-LOCK.true
+pub returns-in-1 : goal.returns-in-1
+unfolding head_at
+returns-in-1 c = grind (arith, common_steps)
 
-pub returns : goal.returns
-returns c = head_at_other _ _ c.if-kind-eq-LOCK.false
+pub returns-in_default : goal.returns-in_default
+unfolding head_at
+returns-in_default c = grind (arith, common_steps)

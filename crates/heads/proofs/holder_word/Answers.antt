@@ -1,19 +1,13 @@
 -- `heads::holder_word` meets its contract: the two cases of `holder_in`. Assumes nothing.
-use native.Mathlib.Omega.{arith}
-use Rattle.heads.proofs.Steps.{holder_lock, holder_other}
+use Rattle.std.proofs.Common.{arith}
+use Rattle.std.proofs.lemmas.Grind.{common_steps}
+use Rattle.heads.specs.Heads.{holder_in}
 use Rattle.heads.proofs.holder_word.Goals as goal
 
-pub overflow_add-result : goal.overflow_add-result
-overflow_add-result c = omega (arith, c.requires c.if-kind-eq-LOCK.true)
+pub returns-in-1 : goal.returns-in-1
+unfolding holder_in
+returns-in-1 c = grind (arith, common_steps)
 
-pub offset_bounds-heads-at : goal.offset_bounds-heads-at
-offset_bounds-heads-at c = omega (arith, c.requires c.if-kind-eq-LOCK.true)
-
-pub bounds-heads-at : goal.bounds-heads-at
-bounds-heads-at c = omega (arith, c.requires c.if-kind-eq-LOCK.true)
-
-pub returns-then-kind-eq-LOCK : goal.returns-then-kind-eq-LOCK
-returns-then-kind-eq-LOCK c = holder_lock _ _ _ c.if-kind-eq-LOCK.true
-
-pub returns : goal.returns
-returns c = holder_other _ _ _ c.if-kind-eq-LOCK.false
+pub returns-in_default : goal.returns-in_default
+unfolding holder_in
+returns-in_default c = grind (arith, common_steps)
