@@ -36,7 +36,7 @@ runs_first ws rs t f L e n d w = elim (ℕ_discrete (bit_and (link rs f) 4) 0) [
     tail_is : t ≡ get_or ws 5 0 / 8
     tail_is = e ∙ led_tail ws rs L
 
--- ---- a vacant queue: nobody holds the lock
+-- ---- a vacant queue, of which nobody holds the lock
 
 module _ (P k w v : ℕ) (z : is_vacant k w ≡ true) where
   pub vacant_is : (w / 8 ≡ 0) × (w % 2 ≡ 0) × ((k ≡ 2 → ⊥) → w ≡ 0) × (k ≡ 2 → bare w ≡ 0)
@@ -46,10 +46,6 @@ module _ (P k w v : ℕ) (z : is_vacant k w ≡ true) where
   pub head_empty : v ≡ 0 → true ≡ heading P k w v
   unfolding is_vacant heading
   head_empty d = grind (arith, nat_tests)
-
-  pub head_empty_held : (v ≡ 0 → ⊥) → false ≡ heading P k w v
-  unfolding is_vacant heading
-  head_empty_held n = grind (arith, nat_tests)
 
 -- ---- where a queue's words stand
 

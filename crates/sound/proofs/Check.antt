@@ -1,10 +1,12 @@
--- The three passes together: they accept every process, once, exactly where the area is sound. Assumes nothing.
+-- The passes together: they accept every process, once, exactly where the area is sound. Assumes nothing.
 use Prim.Native.Nat.{ℕ, ◌+◌, ◌*◌, ◌/◌, ◌≤◌, ◌<◌}
 use native.Mathlib.Omega.{arith}
 use mathlib.Core.Path.{◌≡◌, refl, sym, ◌∙◌, ap}
-use mathlib.Core.Bool.{Bool, true, false, true≢false, false≢true}
+use mathlib.Core.Bool.{Bool, true, false, not, true≢false, false≢true}
 use mathlib.Core.List.{List, [], ◌∷◌, ◌++◌}
-use Rattle.std.proofs.Common.{Option, None, Some, Fits}
+use Rattle.std.proofs.Common.{Option, None, Some, option_map, nat_eq, Fits}
+use Rattle.std.specs.Option.{option_eq}
+use Rattle.std.proofs.lemmas.Bool.Decides.{nat_tests}
 use mir.Syntax.{w16}
 use Rattle.std.proofs.lemmas.Option.{none-some, same_Some}
 use lib.ListN.{length, get_or}
@@ -19,12 +21,9 @@ use Rattle.area.specs.Rings.{records}
 use Rattle.area.specs.Sound.{Sound}
 use Rattle.area.proofs.Records.{part_lent}
 use Rattle.heads.specs.First.{Decides, Counted, Led, Runs}
-use Rattle.heads.specs.Heads.{head_at}
-use Rattle.members.specs.Walk.{Met, Told}
-use Rattle.members.proofs.Marks.{clear, table_clear}
 use Rattle.members.proofs.Chains.{Words, Member}
-use Rattle.sound.specs.Passed.{then, passed}
-use Rattle.sound.proofs.Queues.{kind_of, holder_word, visits, queues_of, visits_append, begins, number_of, from, from_none, lent_count, lent_led, lent_runs, lent_visits, lent_within}
+use Rattle.sound.specs.Passed.{then, all_passed}
+use Rattle.sound.proofs.Queues.{kind_of, holder_word, visits, queues_of, visits_append, passed_visits, from, lent_led, lent_runs}
 use Rattle.sound.proofs.Lists.{every, every_in, in_every, in_all, all_in, full_length, length_full}
 use Rattle.sound.proofs.Visits.{reading, total, Visited, AllVisited, led, visits_read, visits_full}
 use Rattle.sound.proofs.Whole.{whole_sound}
@@ -38,19 +37,6 @@ Judged ws b = (b ≡ true → Sound ws) × (Sound ws → b ≡ true)
 
 refuses : (ws : List ℕ) → (Sound ws → ⊥) → Judged ws false
 refuses ws n = ((λ e. absurd (false≢true e)), (λ S. absurd (n S)))
-
-told_broken : (P : ℕ) (c : Option ℕ) (ms : List ℕ) (out : Option (List ℕ)) → Told P c ms out → c ≡ None → out ≡ None
-told_broken P c ms None t e = refl
-told_broken P c ms (Some js) u e = absurd (none-some u.0 (sym e ∙ u.1))
-
-record Left (P m : ℕ) (ms : List ℕ) (out : Option (List ℕ)) : Type 0 where
-  js : List ℕ
-  is : out ≡ Some js
-  met : Met P ms js m
-
-told_met : (P m : ℕ) (c : Option ℕ) (ms : List ℕ) (out : Option (List ℕ)) → Told P c ms out → c ≡ Some m → Left P m ms out
-told_met P m c ms None t e = absurd (none-some m (sym t ∙ e))
-told_met P m c ms (Some js) t e = record { js = js; is = refl; met = rw (same_Some m t.0 (sym e ∙ t.1)) t.2 }
 
 -- ---- what is accepted
 
@@ -102,77 +88,77 @@ module _ (ws : List ℕ) (small : Words ws) where
       let f = visits_full ws all [] small (all_in (Visited ws) all (λ q i. W.each q (in_every (shape_of ws) q i))) (λ x. let b = W.once x in omega arith) in
       record { left = f.left; is = f.is; every_one = full_length P f.left (λ x. let b = W.once x in let d = f.counts x in omega arith) }
 
-  refused : visits ws all [] ≡ None → Sound ws → ⊥
-  refused e S = let k = complete S in none-some k.left (sym e ∙ k.is)
-
   uncounted : (Counted ws → ⊥) → Sound ws → ⊥
   uncounted h S = h (sound_whole ws small S).counts
 
   unready : (Runs ws (records (shape_of ws) ws) → ⊥) → Sound ws → ⊥
   unready h S = h (sound_whole ws small S).runs
 
-  -- ---- the passes
+  uneven : ((js : List ℕ) → visits ws all [] ≡ Some js → length js ≡ P → ⊥) → Sound ws → ⊥
+  uneven z S = let k = complete S in z k.left k.is k.every_one
 
-  abbrev plain : List Queue
-  plain = queues_of 0 (1 + (shape_of ws).parks)
+  module _ (C : Counted ws) (js : List ℕ) (w : visits ws all [] ≡ Some js) where
+    -- the tail of ready and who comes after it are processes
+    ready_led : (get_or ws 5 0 / 8 ≡ 0 → ⊥) → (inside (get_or ws 0 0) (get_or ws 5 0 / 8) ≡ true) × (inside (get_or ws 0 0) (links.next (records (shape_of ws) ws) (get_or ws 5 0 / 8)) ≡ true)
+    ready_led = led ws (in_all (Visited ws) all (passes C js w).each ready (every_in (shape_of ws) ready refl))
 
-  abbrev conditions : List Queue
-  conditions = queues_of 2 (shape_of ws).conditions
+    -- what is left to ask is whether running is in order
+    decided : length js ≡ P → (b : Bool) → Decides b (Runs ws (records (shape_of ws) ws)) → Judged ws b
+    decided l true u = ((λ e. accepted C u js w l), λ S. refl)
+    decided l false n = refuses ws (unready n)
 
-  abbrev locks : List Queue
-  locks = queues_of 1 (shape_of ws).locks
+-- ---- the passes over the kinds are one over all queues
 
-  module _ (C : Counted ws) (c₁ : Option ℕ) (ms₁ : List ℕ) (t₁ : (js : List ℕ) → Met P clear js 0 → Told P c₁ ms₁ (visits ws plain js)) where
-    start : Met P clear [] 0
-    start = record { table = table_clear; counts = refl; few = omega arith }
+then_same : (o : Option (List ℕ)) (f g : List ℕ → Option (List ℕ)) → ((js : List ℕ) → f js ≡ g js) → then o f ≡ then o g
+then_same None f g e = refl
+then_same (Some js) f g e = e js
 
-    broken_1 : c₁ ≡ None → Sound ws → ⊥
-    broken_1 e = refused (visits_append ws plain (conditions ++ locks) [] ∙ rw (told_broken P c₁ ms₁ (visits ws plain []) (t₁ [] start) e))
+all_visits : (ws : List ℕ) → all_passed (shape_of ws) ws ≡ visits ws (every (shape_of ws)) []
+all_visits ws =
+    then_same _ _ (visits ws locks) (passed_visits ws 1 (omega arith) n.locks)
+    ∙ ap (λ (o : Option (List ℕ)). then o (visits ws locks)) (then_same _ _ (visits ws conditions) (passed_visits ws 2 (omega arith) n.conditions))
+    ∙ rw (passed_visits ws 0 (omega arith) (1 + n.parks) []) (go (visits ws plain []))
+    ∙ sym (visits_append ws plain (conditions ++ locks) [])
+  where
+    n : Shape
+    n = shape_of ws
 
-    module _ (m₁ : ℕ) (n₁ : c₁ ≡ Some m₁) (c₂ : Option ℕ) (ms₂ : List ℕ) (t₂ : (js : List ℕ) → Met P ms₁ js m₁ → Told P c₂ ms₂ (visits ws conditions js)) where
-      l₁ : Left P m₁ ms₁ (visits ws plain [])
-      l₁ = told_met P m₁ c₁ ms₁ (visits ws plain []) (t₁ [] start) n₁
+    plain : List Queue
+    plain = queues_of 0 (1 + n.parks)
 
-      after₁ : visits ws all [] ≡ then (visits ws conditions l₁.js) (visits ws locks)
-      after₁ = visits_append ws plain (conditions ++ locks) [] ∙ rw l₁.is (visits_append ws conditions locks l₁.js)
+    conditions : List Queue
+    conditions = queues_of 2 n.conditions
 
-      broken_2 : c₂ ≡ None → Sound ws → ⊥
-      broken_2 e = refused (after₁ ∙ rw (told_broken P c₂ ms₂ (visits ws conditions l₁.js) (t₂ l₁.js l₁.met) e))
+    locks : List Queue
+    locks = queues_of 1 n.locks
 
-      module _ (m₂ : ℕ) (n₂ : c₂ ≡ Some m₂) (c₃ : Option ℕ) (ms₃ : List ℕ) (t₃ : (js : List ℕ) → Met P ms₂ js m₂ → Told P c₃ ms₃ (visits ws locks js)) where
-        l₂ : Left P m₂ ms₂ (visits ws conditions l₁.js)
-        l₂ = told_met P m₂ c₂ ms₂ (visits ws conditions l₁.js) (t₂ l₁.js l₁.met) n₂
-
-        after₂ : visits ws all [] ≡ visits ws locks l₂.js
-        after₂ = after₁ ∙ rw l₂.is
-
-        broken_3 : c₃ ≡ None → Sound ws → ⊥
-        broken_3 e = refused (after₂ ∙ told_broken P c₃ ms₃ (visits ws locks l₂.js) (t₃ l₂.js l₂.met) e)
-
-        module _ (m₃ : ℕ) (n₃ : c₃ ≡ Some m₃) where
-          l₃ : Left P m₃ ms₃ (visits ws locks l₂.js)
-          l₃ = told_met P m₃ c₃ ms₃ (visits ws locks l₂.js) (t₃ l₂.js l₂.met) n₃
-
-          w : visits ws all [] ≡ Some l₃.js
-          w = after₂ ∙ l₃.is
-
-          uneven : (m₃ ≡ P → ⊥) → Sound ws → ⊥
-          uneven z S = let k = complete S in z (l₃.met.counts ∙ (ap length (same_Some l₃.js k.left (sym w ∙ k.is)) ∙ k.every_one))
-
-          -- the tail of ready and who comes after it are processes
-          ready_led : (get_or ws 5 0 / 8 ≡ 0 → ⊥) → (inside (get_or ws 0 0) (get_or ws 5 0 / 8) ≡ true) × (inside (get_or ws 0 0) (links.next (records (shape_of ws) ws) (get_or ws 5 0 / 8)) ≡ true)
-          ready_led = led ws (in_all (Visited ws) all (passes C l₃.js w).each ready (every_in (shape_of ws) ready refl))
-
-          -- what is left to ask is whether running is in order
-          decided : m₃ ≡ P → (b : Bool) → Decides b (Runs ws (records (shape_of ws) ws)) → Judged ws b
-          decided f true u = ((λ e. accepted C u l₃.js w (sym l₃.met.counts ∙ f)), λ S. refl)
-          decided f false n = refuses ws (unready n)
+    go : (o : Option (List ℕ)) → then (then o (visits ws conditions)) (visits ws locks) ≡ then o (visits ws (conditions ++ locks))
+    go None = refl
+    go (Some is) = sym (visits_append ws conditions locks is)
 
 -- ---- the answers of the code, which lends itself all of the words and then parts of them
 
 -- an answer about the words from 0 on is one about all of them
 whole : (words : List ℕ) (b : Bool) → Judged (from words 0) b → Judged words b
 whole words b h = rw (part_lent 0 words) at h
+
+-- who is met, by their number
+record Heard (q : ℕ) (out : Option (List ℕ)) : Type 0 where
+  js : List ℕ
+  is : out ≡ Some js
+  all : length js ≡ q
+
+-- two Options, held against each other
+unlike : (c : Option ℕ) (q : ℕ) → true ≡ not (option_eq nat_eq c (Some q)) → c ≡ Some q → ⊥
+unlike c q e z = let d : true ≡ not (nat_eq q q) = rw z at e in grind (arith, nat_tests)
+
+alike : (c : Option ℕ) (q : ℕ) → false ≡ not (option_eq nat_eq c (Some q)) → c ≡ Some q
+alike None q e = absurd (false≢true e)
+alike (Some m) q e = ap Some (grind (arith, nat_tests))
+
+heard : (q : ℕ) (out : Option (List ℕ)) → Some q ≡ option_map length out → Heard q out
+heard q None e = absurd (none-some q (sym e))
+heard q (Some js) e = record { js = js; is = refl; all = sym (same_Some q (length js) e) }
 
 module _ (words : List ℕ) (low : (i : ℕ) → Fits w16 (get_or words i 0)) (b : Bool) (d : Decides b (Counted (from words 0))) where
   abbrev ws : List ℕ
@@ -187,48 +173,26 @@ module _ (words : List ℕ) (low : (i : ℕ) → Fits w16 (get_or words i 0)) (b
   pub says_uncounted : b ≡ false → Judged words false
   says_uncounted x = no (uncounted ws small (rw x at d))
 
-  -- past the counts n, with the records from r on
-  module _ (x : b ≡ true) {n : Shape} (e : n ≡ shape_of ws) {r : ℕ} (there : r ≡ records_at n) where
+  -- past the counts n, with c the number met, held against q, that of the processes
+  module _ (x : b ≡ true) {n : Shape} (e : n ≡ shape_of ws) {c : Option ℕ} (told : c ≡ option_map length (all_passed n ws)) {q : ℕ} (f : q ≡ n.processes) where
     counts : Counted ws
     counts = rw x at d
 
-    pub says_within : (k : ℕ) → k ≤ 2 → {a : ℕ} → a ≡ begins n k
-        → (n.processes < 1024) × (3 * n.processes ≤ length (from ws r)) × (number_of n k < 1024) × (head_at k (number_of n k) ≤ length (from ws a))
-    says_within = lent_within ws e there counts small
+    seen : c ≡ option_map length (visits ws (every (shape_of ws)) [])
+    seen = rw (e, all_visits ws) at told
 
-    -- a pass over the queues of kind k, whose words begin at a
-    abbrev Passes : ℕ → ℕ → ℕ → List ℕ → Option ℕ → List ℕ → Type 0
-    Passes k a m ms c ms' = (js is : List ℕ) → passed (from ws a) (from ws r) n.processes k 0 js ≡ Some is → Met n.processes ms is m → Told n.processes c ms' (passed (from ws a) (from ws r) n.processes k (number_of n k) js)
+    asked : q ≡ get_or ws 0 0
+    asked = f ∙ ap (λ (m : Shape). m.processes) e
 
-    module _ (c₁ : Option ℕ) (ms₁ : List ℕ) (t₁ : (js : List ℕ) → Met n.processes clear js 0 → Told n.processes c₁ ms₁ (passed (from ws 5) (from ws r) n.processes 0 (1 + n.parks) js)) where
-      u₁ : (js : List ℕ) → Met (get_or ws 0 0) clear js 0 → Told (get_or ws 0 0) c₁ ms₁ (visits ws (queues_of 0 (1 + (shape_of ws).parks)) js)
-      u₁ = lent_visits ws e there 0 (omega arith) refl _ _ _ _ t₁
+    pub says_uneven : true ≡ not (option_eq nat_eq c (Some q)) → Judged words false
+    says_uneven z = no (uneven ws small (λ js w l. unlike c q z (seen ∙ rw w (ap Some (l ∙ sym asked)))))
 
-      pub says_1 : c₁ ≡ None → Judged words false
-      says_1 z = no (broken_1 ws small counts _ _ u₁ z)
+    module _ (y : false ≡ not (option_eq nat_eq c (Some q))) {r : ℕ} (there : r ≡ records_at n) where
+      a : Heard q (visits ws (every (shape_of ws)) [])
+      a = heard q _ (sym (alike c q y) ∙ seen)
 
-      module _ {m₁ : ℕ} (n₁ : c₁ ≡ Some m₁) {a₂ : ℕ} (here₂ : a₂ ≡ conditions_at n) (c₂ : Option ℕ) (ms₂ : List ℕ) (t₂ : Passes 2 a₂ m₁ ms₁ c₂ ms₂) where
-        u₂ : (js : List ℕ) → Met (get_or ws 0 0) ms₁ js m₁ → Told (get_or ws 0 0) c₂ ms₂ (visits ws (queues_of 2 (shape_of ws).conditions) js)
-        u₂ = lent_visits ws e there 2 (omega arith) here₂ _ _ _ _ (from_none _ _ _ _ _ _ _ _ _ t₂)
+      pub says_led : (6 ≤ length ws) × Led ws (from ws r)
+      says_led = lent_led ws e there counts (ready_led ws small counts a.js a.is)
 
-        pub says_2 : c₂ ≡ None → Judged words false
-        says_2 z = no (broken_2 ws small counts _ _ u₁ _ n₁ _ _ u₂ z)
-
-        module _ {m₂ : ℕ} (n₂ : c₂ ≡ Some m₂) {a₃ : ℕ} (here₃ : a₃ ≡ locks_at n) (c₃ : Option ℕ) (ms₃ : List ℕ) (t₃ : Passes 1 a₃ m₂ ms₂ c₃ ms₃) where
-          u₃ : (js : List ℕ) → Met (get_or ws 0 0) ms₂ js m₂ → Told (get_or ws 0 0) c₃ ms₃ (visits ws (queues_of 1 (shape_of ws).locks) js)
-          u₃ = lent_visits ws e there 1 (omega arith) here₃ _ _ _ _ (from_none _ _ _ _ _ _ _ _ _ t₃)
-
-          pub says_3 : c₃ ≡ None → Judged words false
-          says_3 z = no (broken_3 ws small counts _ _ u₁ _ n₁ _ _ u₂ _ n₂ _ _ u₃ z)
-
-          module _ {m₃ : ℕ} (n₃ : c₃ ≡ Some m₃) where
-            pub says_led : (6 ≤ length ws) × Led ws (from ws r)
-            says_led = lent_led ws e there counts (ready_led ws small counts _ _ u₁ _ n₁ _ _ u₂ _ n₂ _ _ u₃ _ n₃)
-
-            -- the number met is held against q, that of the processes
-            module _ {q : ℕ} (f : q ≡ n.processes) where
-              pub says_uneven : (b : Bool) → b ≡ false → (m₃ ≡ q → ⊥) → Judged words b
-              says_uneven b y z = rw y (no (uneven ws small counts _ _ u₁ _ n₁ _ _ u₂ _ n₂ _ _ u₃ _ n₃ (λ k. z (k ∙ sym (f ∙ lent_count ws e there)))))
-
-              pub says_runs : m₃ ≡ q → (b : Bool) → Decides b (Runs ws (from ws r)) → Judged words b
-              says_runs y b h = whole words b (decided ws small counts _ _ u₁ _ n₁ _ _ u₂ _ n₂ _ _ u₃ _ n₃ (y ∙ (f ∙ lent_count ws e there)) b (lent_runs ws e there b h))
+      pub says_runs : (b : Bool) → Decides b (Runs ws (from ws r)) → Judged words b
+      says_runs b h = whole words b (decided ws small counts a.js a.is (a.all ∙ asked) b (lent_runs ws e there b h))

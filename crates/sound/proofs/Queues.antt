@@ -25,7 +25,7 @@ use Rattle.area.specs.Rings.{records}
 use Rattle.area.proofs.Records.{part_lent}
 use Rattle.heads.specs.First.{Decides, Counted, Led, Runs}
 use Rattle.heads.specs.Heads.{is_vacant, heading, head_at, holder_in}
-use Rattle.heads.proofs.Steps.{vacant_is, head_empty, head_empty_held}
+use Rattle.heads.proofs.Steps.{vacant_is, head_empty}
 use Rattle.heads.proofs.Tests.{heading_is}
 use Rattle.members.specs.Walk.{ringed, Met, Told}
 use Rattle.members.proofs.Steps.{ring_empty}
@@ -86,9 +86,6 @@ module _ (hs rs : List ℕ) (P k : ℕ) where
     pub passed_empty : is_vacant k w ≡ true → v ≡ 0 → Passed hs rs P k (i + 1) ms m js₀
     passed_empty z o = record { js = p.js; met = p.met; so = here ∙ rw (← head_empty P k w v z o) (ring_empty rs P k (v / 8) (w / 8) p.js (vacant_is P k w v z).0) }
 
-    pub passed_held : (ms' : List ℕ) → is_vacant k w ≡ true → (v ≡ 0 → ⊥) → Told P None ms' (passed hs rs P k n js₀)
-    passed_held ms' z o = told_none P ms' _ (passed_stops (i + 1) n js₀ (omega arith) (here ∙ rw (← head_empty_held P k w v z o)))
-
     module _ (few : P < 1024) (ok : Bool) (tested : ok ≡ heading (bit_and P 1023) k w v) where
       pub passed_odd : (ms' : List ℕ) → ok ≡ false → Told P None ms' (passed hs rs P k n js₀)
       passed_odd ms' x =
@@ -122,12 +119,6 @@ module _ (hs rs : List ℕ) (P k : ℕ) where
               go : (out : Option (List ℕ)) → passed hs rs P k (i + 1) js₀ ≡ out → Told P c ms' out → Passed hs rs P k (i + 1) ms' m' js₀
               go None q u = absurd (none-some m' (sym u ∙ z))
               go (Some js) q u = record { js = js; met = rw (same_Some m' u.0 (sym z ∙ u.1)) u.2; so = q }
-
--- none is passed before the first
-pub from_none : (hs rs : List ℕ) (P k n c₀ : ℕ) (c : Option ℕ) (ms₀ ms : List ℕ) → ((js is : List ℕ) → passed hs rs P k 0 js ≡ Some is → Met P ms₀ is c₀ → Told P c ms (passed hs rs P k n js))
-    → (js : List ℕ) → Met P ms₀ js c₀ → Told P c ms (passed hs rs P k n js)
-unfolding passed
-from_none hs rs P k n c₀ c ms₀ ms t js T = t js js refl T
 
 -- ---- the queues of an area
 
@@ -239,7 +230,7 @@ module _ (ws : List ℕ) where
         let w : get_or hs (head_at k i) 0 ≡ tail_word ws (queue_at k i) = get_or-drop (begins n k) ws (head_at k i) 0 ∙ ap (λ (j : ℕ). get_or ws j 0) (tail_at n k i h) in
         rw (w, holder_at ws k i h, kind_at k i h)
 
-    passed_visits : (m : ℕ) (js : List ℕ) → passed hs (records n ws) n.processes k m js ≡ visits ws (queues_of k m) js
+    pub passed_visits : (m : ℕ) (js : List ℕ) → passed hs (records n ws) n.processes k m js ≡ visits ws (queues_of k m) js
     unfolding passed visits queues_of
     passed_visits zero js = refl
     passed_visits (suc m) js = rw (visits_append ws (queues_of k m) (queue_at k m ∷ []) js, passed_visits m js) (go (visits ws (queues_of k m) js))
@@ -260,18 +251,11 @@ from ws a = mid_of a (length ws - a) ws
 
 -- by the counts n that the words say, and the address r of the records
 module _ (ws : List ℕ) {n : Shape} (e : n ≡ shape_of ws) {r : ℕ} (there : r ≡ records_at n) where
-  pub lent_count : n.processes ≡ get_or ws 0 0
+  lent_count : n.processes ≡ get_or ws 0 0
   lent_count = ap (λ (m : Shape). m.processes) e
 
   pub lent_runs : (b : Bool) → Decides b (Runs ws (from ws r)) → Decides b (Runs ws (records (shape_of ws) ws))
   lent_runs b d = rw (there, e, part_lent (records_at (shape_of ws)) ws) at d
-
-  pub lent_visits : (k : ℕ) → k ≤ 2 → {a : ℕ} → a ≡ begins n k → (c₀ : ℕ) (c : Option ℕ) (ms₀ ms : List ℕ)
-      → ((js : List ℕ) → Met n.processes ms₀ js c₀ → Told n.processes c ms (passed (from ws a) (from ws r) n.processes k (number_of n k) js))
-      → (js : List ℕ) → Met (get_or ws 0 0) ms₀ js c₀ → Told (get_or ws 0 0) c ms (visits ws (queues_of k (number_of (shape_of ws) k)) js)
-  lent_visits k h here c₀ c ms₀ ms t js T =
-      let u = rw (here, there, e, part_lent (begins (shape_of ws) k) ws, part_lent (records_at (shape_of ws)) ws) at t in
-      rw (passed_visits ws k h (number_of (shape_of ws) k) js) at (u js T)
 
   module _ (c : Counted ws) where
     few : n.processes < 1024
@@ -305,7 +289,5 @@ module _ (ws : List ℕ) {n : Shape} (e : n ≡ shape_of ws) {r : ℕ} (there : 
     heads_long (suc (suc zero)) h = let l = counted_long e c in omega arith
     heads_long (suc (suc (suc k))) h = absurd (omega arith)
 
-    pub lent_within : Words ws → (k : ℕ) → k ≤ 2 → {a : ℕ} → a ≡ begins n k
-        → (n.processes < 1024) × (3 * n.processes ≤ length (from ws r)) × (number_of n k < 1024) × (head_at k (number_of n k) ≤ length (from ws a))
-    lent_within small k h here =
-        (few, lent_records, number_small k small, rw (here, part_lent (begins n k) ws, length-drop (begins n k) ws) (heads_long k h))
+    pub lent_within : Words ws → (k : ℕ) → k ≤ 2 → {a : ℕ} → a ≡ begins n k → (number_of n k < 1024) × (head_at k (number_of n k) ≤ length (from ws a))
+    lent_within small k h here = (number_small k small, rw (here, part_lent (begins n k) ws, length-drop (begins n k) ws) (heads_long k h))

@@ -1,5 +1,8 @@
--- The queues of a kind as the check passes them: for each its words, then its ring. Assumes nothing.
-use Rattle.std.specs.Prelude.{ℕ, zero, suc, ◌/◌, cond, List, Option, None, Some, get_or}
+-- The queues of a kind as the check passes them: for each its words, then its ring; and those of all kinds. Assumes nothing.
+use Rattle.std.specs.Prelude.{ℕ, zero, suc, ◌+◌, ◌/◌, cond, List, [], Option, None, Some, get_or, drop}
+use Rattle.model.specs.declared.Shape.{Shape}
+use Rattle.area.specs.Layout.{locks_at, conditions_at}
+use Rattle.area.specs.Rings.{records}
 use Rattle.heads.specs.Heads.{heading, head_at, holder_in}
 use Rattle.members.specs.Walk.{ringed}
 
@@ -18,3 +21,10 @@ then (Some js) f = f js
 unfoldable pub passed : List ℕ → List ℕ → ℕ → ℕ → ℕ → List ℕ → Option (List ℕ)
 passed hs rs P k zero js = Some js
 passed hs rs P k (suc m) js = then (passed hs rs P k m js) (queued hs rs P k (head_at k m))
+
+-- the queues of an area with the counts n: ready and the parks, the conditions, the locks
+abbrev pub all_passed : Shape → List ℕ → Option (List ℕ)
+all_passed n ws =
+    then
+    (then (passed (drop 5 ws) (records n ws) n.processes 0 (1 + n.parks) []) (passed (drop (conditions_at n) ws) (records n ws) n.processes 2 n.conditions))
+    (passed (drop (locks_at n) ws) (records n ws) n.processes 1 n.locks)
