@@ -3,14 +3,14 @@ use Prim.Native.Nat.{ℕ, ◌+◌, ◌*◌, ◌/◌, ◌%◌, ◌≤◌, ◌<◌
 use native.Mathlib.Decide.{ℕ_discrete}
 use native.Mathlib.Omega.{arith}
 use mathlib.Core.Path.{◌≡◌, ◌∙◌}
-use mathlib.Core.Bool.{true, false}
+use mathlib.Core.Bool.{true}
 use mathlib.Core.List.{List}
 use Rattle.std.proofs.lemmas.Bool.Decides.{nat_tests}
 use lib.Bits.{bit_and, and_high}
 use lib.Dec.{eqb}
 use lib.ListN.{get_or}
 use borrow.Author.Tests.{eq-eqb, ne_eqb}
-use Rattle.links.specs.Link.{link, next}
+use Rattle.links.specs.Link.{Stands, link, next}
 use Rattle.heads.specs.First.{Decides, Led, Runs}
 use Rattle.heads.specs.Heads.{bare, is_vacant, heading, head_at}
 
@@ -20,7 +20,11 @@ use Rattle.heads.specs.Heads.{bare, is_vacant, heading, head_at}
 pub led_tail : (ws rs : List ℕ) → Led ws rs → get_or ws 5 0 / 8 % 1024 ≡ get_or ws 5 0 / 8
 led_tail ws rs L = elim (ℕ_discrete (get_or ws 5 0 / 8) 0) [ yes e ↦ omega arith | no n ↦ omega (arith, (L n).0.high) ]
 
--- where t is read as the tail of ready and f comes after it, f is to run and not to be failed
+-- where t is read as the tail of ready and f comes after it, f has a record
+pub led_first : (ws rs : List ℕ) (t f : ℕ) → Led ws rs → t ≡ get_or ws 5 0 / 8 % 1024 → (t ≡ 0 → ⊥) → f ≡ next rs t → Stands rs f
+led_first ws rs t f L e n d = rw (d, e, led_tail ws rs L) (L (λ z. n (omega arith))).1
+
+-- and f is to run and not to be failed
 pub runs_first : (ws rs : List ℕ) (t f : ℕ) → Led ws rs → t ≡ get_or ws 5 0 / 8 % 1024 → (t ≡ 0 → ⊥) → f ≡ next rs t → get_or ws 4 0 ≡ f * 8 → Decides (eqb (bit_and (link rs f) 4) 0) (Runs ws rs)
 runs_first ws rs t f L e n d w = elim (ℕ_discrete (bit_and (link rs f) 4) 0) [
   | yes z ↦ rw (eq-eqb (bit_and (link rs f) 4) 0 z) (record { nobody = λ x. absurd (some x); somebody = λ x. rw (← tail_is) (record { first = rw (← d) w; clear = rw (← d) (omega (arith, bit)) }) })

@@ -1,5 +1,5 @@
 -- The passes together: they accept every process, once, exactly where the area is sound. Assumes nothing.
-use Prim.Native.Nat.{ℕ, ◌+◌, ◌*◌, ◌/◌, ◌≤◌, ◌<◌}
+use Prim.Native.Nat.{ℕ, ◌+◌, ◌/◌, ◌≤◌}
 use native.Mathlib.Omega.{arith}
 use mathlib.Core.Path.{◌≡◌, refl, sym, ◌∙◌, ap}
 use mathlib.Core.Bool.{Bool, true, false, not, true≢false, false≢true}
@@ -15,7 +15,7 @@ use Rattle.model.specs.Queue.{Queue, inside, bit, exists, member, count, All}
 use Rattle.model.specs.Queue.Queue.{ready}
 use Rattle.model.proofs.Lists.{absent_count, members_all}
 use Rattle.links.specs.Link as links
-use Rattle.area.specs.Layout.{locks_at, conditions_at, records_at}
+use Rattle.area.specs.Layout.{records_at}
 use Rattle.area.specs.Reading.{shape_of}
 use Rattle.area.specs.Rings.{records}
 use Rattle.area.specs.Sound.{Sound}
