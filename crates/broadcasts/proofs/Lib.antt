@@ -1,2 +1,3 @@
 pub mod Crowding
 pub mod Ticking
+pub mod Numbers

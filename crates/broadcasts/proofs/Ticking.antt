@@ -1,7 +1,7 @@
 -- Tick: those whose timer rings leave their conditions, and then wake in process order. Who rings waits, so each condition is without them when
 -- it is swept, no other queue has one of them, and they are those of the rule. Assumes nothing.
-use Rattle.std.proofs.Common.{◌≡◌, ℕ, zero, suc, ◌+◌, ◌-◌, ◌%◌, ◌<◌, ◌≤◌, Bool, true, false, not, ◌≢◌, List, [], ◌∷◌, ◌++◌, Some, None, length, get_or, drop, position, nat_le, slice_range, length-drop, sym, refl, ap, ◌∙◌, subst, true≢false, add-one, arith}
-use Rattle.std.specs.List.{position_or_len}
+use Rattle.std.proofs.Common.{◌≡◌, ℕ, zero, suc, ◌+◌, ◌-◌, ◌%◌, ◌<◌, ◌≤◌, Bool, true, false, not, ◌||◌, ◌≢◌, List, [], ◌∷◌, ◌++◌, Some, None, length, get_or, drop, position, nat_le, slice_range, length-drop, sym, refl, ap, ◌∙◌, subst, true≢false, add-one, arith}
+use Rattle.std.specs.List.{list_any, position_or_len}
 use Rattle.std.proofs.lemmas.List.{get_or-take, get_or-drop, length-take-le}
 use Rattle.std.proofs.lemmas.List.Sums.{prefix_len_passes}
 use Rattle.std.proofs.lemmas.List.Quantifiers.{position-Some}
@@ -19,7 +19,7 @@ use Rattle.model.specs.Rules.{calm, rings, due, decide}
 use Rattle.model.specs.Machine.{State, model, finish}
 use Rattle.model.specs.Valid.{Valid}
 use Rattle.model.proofs.Tests.{holds, fails, SameCase, same_case, inside_bounds, bounds_inside, denied, not_true}
-use Rattle.model.proofs.Lists.{filter_member, member_filter, up_to_member, member_up_to}
+use Rattle.model.proofs.Lists.{member_here, member_there, filter_member, member_filter, up_to_member, member_up_to}
 use Rattle.model.proofs.Loops.{due_moved}
 use Rattle.model.proofs.Many.{without, filter_all, filter_agree, filter_once, up_to_once}
 use Rattle.links.specs.Link as link
@@ -208,30 +208,22 @@ module _ {n : Shape} {old mid : List ℕ} {s : State model} (H : Holds n old s) 
 
 -- ---- whether somebody rings
 
--- of those below p nobody does, and not p
-next_none : (f : Fields) (time p : ℕ) → 1 ≤ p → rings f time p ≡ false → ringing f time (p - 1) ≡ [] → ringing f time (p + 1 - 1) ≡ []
-next_none f time zero some own e = absurd (omega arith)
-next_none f time (suc k) some own e = rw (let a : suc k + 1 - 1 ≡ suc k = omega arith in a) (skips (up_to k) ∙ rw (let a : suc k - 1 ≡ k = omega arith in a) at e)
+-- none of some passes a test where none passes one that says the same of them
+pub none_pass : (t u : ℕ → Bool) (xs : List ℕ) → ((x : ℕ) → member x xs ≡ true → u x ≡ t x) → list_any u xs ≡ false → filter t xs ≡ []
+none_pass t u [] a e = refl
+none_pass t u (x ∷ xs) a e = go (u x) (sym (a x (member_here x xs))) e (none_pass t u xs (λ y m. a y (member_there y x xs m)))
   where
-    skips : (xs : List ℕ) → filter (rings f time) (xs ++ (suc k ∷ [])) ≡ filter (rings f time) xs
-    skips [] = rw own
-    skips (y ∷ ys) = rw (skips ys)
-
--- all of them
-pub none_all : (f : Fields) (time k m : ℕ) → k ≡ m → ringing f time k ≡ [] → ringing f time m ≡ []
-none_all f time k m e h = subst (λ (i : ℕ). ringing f time i ≡ []) e h
+    go : (b : Bool) → t x ≡ b → b || list_any u xs ≡ false → (list_any u xs ≡ false → filter t xs ≡ []) → filter t (x ∷ xs) ≡ []
+    go true k z ih = absurd (true≢false z)
+    go false k z ih = rw k (ih z)
 
 -- a process stands in the records as they are lent, and rings there as it does in the state
 module _ {n : Shape} {ws : List ℕ} {s : State model} (H : Holds n ws s) {a : ℕ} (p : ℕ) (at_records : a ≡ records_at n) (i : inside n.processes p ≡ true) where
   pub held_stands : Stands (mid_of a (length ws - a) ws) p
   held_stands = subst (λ (r : List ℕ). Stands r p) (sym (lent n ws at_records)) (records_stand n ws (laid n s) H.image p i)
 
-  held_rings : (time : ℕ) → link.rings (mid_of a (length ws - a) ws) time p ≡ rings s.fields time p
+  pub held_rings : (time : ℕ) → link.rings (mid_of a (length ws - a) ws) time p ≡ rings s.fields time p
   held_rings time = ap (λ (r : List ℕ). link.rings r time p) (lent n ws at_records) ∙ rings_said n ws (laid n s) H.image p i time
-
-  -- nor does anybody of those to p where none below it does
-  pub none_next : (time : ℕ) → link.rings (mid_of a (length ws - a) ws) time p ≡ false → ringing s.fields time (p - 1) ≡ [] → ringing s.fields time (p + 1 - 1) ≡ []
-  none_next time own e = next_none s.fields time p (inside_bounds n.processes p i).0 (sym (held_rings time) ∙ own) e
 
 -- ---- the call
 

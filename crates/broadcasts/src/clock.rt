@@ -19,12 +19,7 @@ fn nobody_due(area: &[u16], shape: Shape, time: u16) -> bool
     ensures { (s : State model) → Holds shape area.now s → result ≡ true → due shape s.fields time ≡ [] }
 {
     let at = area::records_at(shape);
-    for p in 1..=shape.processes {
-        if links::rings(&area[at..], p, time) {
-            return false;
-        }
-    }
-    true
+    !(1..shape.processes + 1).any(|p| links::rings(&area[at..], p, time))
 }
 
 // Where the first of these words stands that says that somebody waits. Most conditions are empty.

@@ -80,13 +80,10 @@ impl<'a> Reading<'a> {
     fn count_due(&self, ticks: u16) -> u16
         ensures { (s : State model) → Shows self.now s → result ≡ length (due_ones ticks self.now.shape s) }
     {
-        let mut count: u16 = 0;
-        for p in 1..=self.shape.processes {
-            if self.is_due(ticks, p) {
-                count += 1;
-            }
-        }
-        count
+        // there are at most 1,023
+        (1..self.shape.processes + 1)
+            .filter(|p| self.is_due(ticks, *p))
+            .count() as u16
     }
 
     // They are written to the front of the buffer, in process order.
