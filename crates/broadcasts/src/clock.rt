@@ -19,6 +19,7 @@ fn nobody_due(area: &[u16], shape: Shape, time: u16) -> bool
     ensures { (s : State model) → Holds shape area.now s → result ≡ true → due shape s.fields time ≡ [] }
 {
     let at = area::records_at(shape);
+    // not 1..=, whose search asks more in each turn
     !(1..shape.processes + 1).any(|p| links::rings(&area[at..], p, time))
 }
 

@@ -3,4 +3,3 @@ pub mod Dues
 pub mod Least
 pub mod Sorted
 pub mod Answers
-pub mod Numbers

@@ -40,6 +40,7 @@ fn call_off_any(area: &mut [u16], shape: Shape, p: u16) -> u16
     if !area::waits(area, shape, p) {
         return 0;
     }
+    // no `any`: its contract does not say what the closure wrote in the area
     for c in 1..=shape.conditions {
         if call_off(area, shape, c, p) {
             return 1;

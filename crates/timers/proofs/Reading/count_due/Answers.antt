@@ -1,17 +1,26 @@
--- `Reading::count_due` meets its contract: of the processes from 1 on it counts those due. Assumes nothing.
-use Rattle.std.proofs.Common.{◌≡◌, rules, refl, sym, ap, ◌∙◌, length}
-use borrow.Author.Tests.{tests}
-use Rattle.std.proofs.lemmas.Iterator.Consumers.{YieldsList-at, YieldsList-from_filter, count_from_yields_List}
+use Rattle.std.proofs.Common.{◌≡◌, ◌+◌, ◌-◌, ap, sym, ◌∙◌, length, arith}
 use Rattle.order.specs.Order.{Timers}
-use Rattle.timers.proofs.Numbers.{numbers_come}
-use Rattle.timers.proofs.Dues.{is_due, due_all}
+use Rattle.timers.proofs.Dues.{is_due, due_all, count_more, count_same}
+use Rattle.timers.proofs.Reading.count_due.Goals.{then-is_due, else-is_due}
 use Rattle.timers.proofs.Reading.count_due.Goals as goal
 
-pub returns : goal.returns
-returns c s S =
+pub loop-p-preserved : goal.loop-p-preserved
+loop-p-preserved c =
+    let counted = c.loop-p.invariant.counted in
+    let few = c.loop-p.invariant.few in
+    elim c.if-is_due.branch [
+      | then-is_due w ↦ rw w.count-is (record { few = omega (arith, few); counted = λ s S. count_more (is_due c.args.ticks c.args.self.now.shape s) c.loop-p.auto.p (sym (c.is_due.ensures s S) ∙ w.if-is_due.true) (counted s S) })
+      | else-is_due w ↦ rw w.count-is (record { few = omega (arith, few); counted = λ s S. count_same (is_due c.args.ticks c.args.self.now.shape s) c.loop-p.auto.p (sym (c.is_due.ensures s S) ∙ w.if-is_due.false) (counted s S) })
+    ]
+
+pub returns-after-is_due : goal.returns-after-is_due
+returns-after-is_due c s S =
     let n = c.args.self.now.shape in
     let t = is_due c.args.ticks n s in
+    let counted = c.loop-p.invariant.counted s S in
     let same : c.self.inside.shape.processes ≡ n.processes = ap (λ (r : Timers). r.shape.processes) c.self.view_is in
-    count_from_yields_List _ _ c.count.ensures.ran
-    (YieldsList-from_filter _ t (YieldsList-at c.filter.ensures.source (numbers_come c.self.inside.shape.processes refl)) c.filter.ensures.closure (λ x b q k. search (rules, S)))
-    ∙ ap length (due_all c.args.ticks n s _ same)
+    let all = due_all c.args.ticks n s (c.loop-p.p + 1 - 1) (omega (arith, c.loop-p.auto.p)) in
+    elim c.if-is_due.branch [
+      | then-is_due w ↦ rw w.count-is (count_more t c.loop-p.auto.p (sym (c.is_due.ensures s S) ∙ w.if-is_due.true) counted ∙ ap length all)
+      | else-is_due w ↦ rw w.count-is (count_same t c.loop-p.auto.p (sym (c.is_due.ensures s S) ∙ w.if-is_due.false) counted ∙ ap length all)
+    ]
