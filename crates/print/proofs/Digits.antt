@@ -1,56 +1,61 @@
 -- Laws on digits written from the last to the first, and on rows put one behind the other. Assumes nothing.
-use Prim.Native.Nat.{ℕ, suc, ◌+◌, ◌-◌, ◌/◌, ◌%◌, ◌≤◌, ◌<◌}
-use mathlib.Core.Path.{◌≡◌, sym, ap, ◌∙◌}
+use Prim.Native.Nat.{ℕ, zero, suc, ◌+◌, ◌-◌, ◌/◌, ◌%◌, ◌≤◌, ◌<◌}
+use borrow.Rule.Slice.PartMut.{mid_of, put_mid, mid_len, same_len_mid}
+use mathlib.Core.Path.{◌≡◌, refl, sym, ap, ◌∙◌}
 use mathlib.Core.List.{List, [], ◌∷◌, ◌++◌, append_assoc, append-nil}
 use native.Mathlib.Omega.{arith}
 use native.Mathlib.Numerals.{add-one}
 use native.Mathlib.Nat.{add-sub_cancel_left}
-use lib.ListN.{length, get_or, take, drop, set, drop_of_length-le, take-append-drop}
-use lib.Seq.{length-take-le, lt-length-set, drop-cons, get_or-set_same, drop-set-lt, take-set-lt, take-take, take-suc-set}
+use lib.ListN.{length, get_or, take, drop, set, drop_of_length-le, length-append}
+use lib.Seq.{length-take-le, lt-length-set, drop-cons, get_or-set_same, drop-set-lt, take_at, take-suc-set}
 use Rattle.print.specs.Print.{digits, width, field}
 
 -- before the first: all digits are to come
-pub digits_start : (l : List ℕ) (at k n : ℕ) → at + k ≤ length l → digits (at + k - at) n ++ drop (at + k) (take (at + k) l) ≡ digits k n
-digits_start l at k n h =
-    let e : length (take (at + k) l) ≡ at + k = length-take-le (at + k) l h in
-    let b : length (take (at + k) l) ≤ at + k = omega arith in
-    let d : drop (at + k) (take (at + k) l) ≡ [] = drop_of_length-le (take (at + k) l) b in
-    rw (add-sub_cancel_left at k, d, append-nil)
-
-front : (l : List ℕ) (j v : ℕ) → j < length l → drop j (set l j v) ≡ v ∷ drop (suc j) l
-front l j v h = rw (drop-cons (set l j v) j 0 (lt-length-set l j v h), get_or-set_same l j v 0 h, drop-set-lt (suc j) l j v (omega arith))
-
-one_digit : (l : List ℕ) (N j k m : ℕ) (ds : List ℕ) → j < N → N ≤ length l → digits (suc k) m ++ drop (suc j) (take N l) ≡ ds →
-    digits k (m / 10) ++ drop j (take N (set l j (48 + m % 10))) ≡ ds
-one_digit l N j k m ds h b e =
-    let t : length (take N l) ≡ N = length-take-le N l b in
-    let f : drop j (take N (set l j (48 + m % 10))) ≡ (48 + m % 10) ∷ drop (suc j) (take N l) =
-    ap (drop j) (take-set-lt N l j (48 + m % 10) h) ∙ front (take N l) j (48 + m % 10) (omega arith) in
-    ap (λ (r : List ℕ). digits k (m / 10) ++ r) f ∙ sym (append_assoc (digits k (m / 10)) ((48 + m % 10) ∷ []) (drop (suc j) (take N l))) ∙ e
+pub digits_start : (l : List ℕ) (n : ℕ) → digits (length l) n ++ drop (length l) l ≡ digits (length l) n
+digits_start l n = rw (drop_of_length-le l {i = length l} (omega arith), append-nil)
 
 -- one digit more at the place before i
-pub digits_on : (l : List ℕ) (at N i m : ℕ) (ds : List ℕ) → at < i → i ≤ N → N ≤ length l → digits (i - at) m ++ drop i (take N l) ≡ ds →
-    digits (i - 1 - at) (m / 10) ++ drop (i - 1) (take N (set l (i - 1) (48 + m % 10))) ≡ ds
-digits_on l at N i m ds a h b e =
-    let e1 : suc (i - 1) ≡ i = omega arith in
-    let e2 : suc (i - 1 - at) ≡ i - at = omega arith in
-    one_digit l N (i - 1) (i - 1 - at) m ds (omega arith) b
-    (ap (λ (x : ℕ). digits x m ++ drop (suc (i - 1)) (take N l)) e2 ∙ ap (λ (x : ℕ). digits (i - at) m ++ drop x (take N l)) e1 ∙ e)
+pub digits_on : (l : List ℕ) (i m : ℕ) {ds : List ℕ} → 0 < i → i ≤ length l → digits i m ++ drop i l ≡ ds → digits (i - 1) (m / 10) ++ drop (i - 1) (set l (i - 1) (48 + m % 10)) ≡ ds
+digits_on l i m a h e =
+    ap (λ (r : List ℕ). digits (i - 1) (m / 10) ++ r) behind ∙ sym (append_assoc (digits (i - 1) (m / 10)) ((48 + m % 10) ∷ []) (drop (suc (i - 1)) l)) ∙ ap (λ (j : ℕ). digits j m ++ drop j l) step ∙ e
+  where
+    step : suc (i - 1) ≡ i
+    step = omega arith
+
+    behind : drop (i - 1) (set l (i - 1) (48 + m % 10)) ≡ (48 + m % 10) ∷ drop (suc (i - 1)) l
+    behind = rw (drop-cons (set l (i - 1) (48 + m % 10)) (i - 1) 0 (lt-length-set l (i - 1) (48 + m % 10) (omega arith)), get_or-set_same l (i - 1) (48 + m % 10) 0 (omega arith), drop-set-lt (suc (i - 1)) l (i - 1) (48 + m % 10) (omega arith))
 
 -- after the last
-pub digits_end : (l old : List ℕ) (at N i m : ℕ) (ds : List ℕ) → i ≡ at → at ≤ N → take at l ≡ take at old → digits (i - at) m ++ drop i (take N l) ≡ ds →
-    take N l ≡ take at old ++ ds
-digits_end l old at N i m ds q h t e =
-    let z : 0 ≡ i - at = omega arith in
-    let d : drop at (take N l) ≡ ds =
-    ap (λ (x : ℕ). digits x m ++ drop at (take N l)) z ∙ ap (λ (x : ℕ). digits (i - at) m ++ drop x (take N l)) (sym q) ∙ e in
-    sym (take-append-drop at (take N l)) ∙ rw (take-take at N l h, t, d)
+pub digits_end : (l : List ℕ) (i m : ℕ) {ds : List ℕ} → i ≡ 0 → digits i m ++ drop i l ≡ ds → l ≡ ds
+digits_end l i m q e = ap (λ (j : ℕ). digits j m ++ drop j l) (sym q) ∙ e
 
-pub field_put : (old mid : List ℕ) (at k n b : ℕ) → k ≡ width n → at + k < length mid → take (at + k) mid ≡ take at old ++ digits k n →
-    take (at + k + 1) (set mid (at + k) b) ≡ take at old ++ field n b
-field_put old mid at k n b q h e =
-    rw (add-one, take-suc-set mid (at + k) b h, e)
+digits_length : (k n : ℕ) → length (digits k n) ≡ k
+digits_length zero n = refl
+digits_length (suc k) n = length-append (digits k (n / 10)) ((48 + n % 10) ∷ []) ∙ rw (digits_length k (n / 10)) (add-one k)
+
+-- all digits in the place of a part, and the byte after them
+pub field_put : (old part : List ℕ) (at k n b : ℕ) → k ≡ width n → at + k < length old → part ≡ digits (length (mid_of at (at + k - at) old)) n →
+    take (at + k + 1) (set (put_mid at (at + k - at) old part) (at + k) b) ≡ take at old ++ field n b
+field_put old part at k n b q h e =
+    rw (add-one, take-suc-set mid (at + k) b room, front)
     (append_assoc (take at old) (digits k n) (b ∷ []) ∙ ap (λ (x : ℕ). take at old ++ (digits x n ++ (b ∷ []))) q)
+  where
+    mid : List ℕ
+    mid = put_mid at (at + k - at) old part
+
+    rest : List ℕ
+    rest = drop (at + k - at) (drop at old)
+
+    all : part ≡ digits k n
+    all = e ∙ ap (λ (j : ℕ). digits j n) (mid_len at (at + k) old (omega arith) ∙ add-sub_cancel_left at k)
+
+    room : at + k < length mid
+    room = rw (same_len_mid at (at + k - at) old part (rw e (digits_length (length (mid_of at (at + k - at) old)) n))) h
+
+    front : take (at + k) mid ≡ take at old ++ digits k n
+    front =
+        ap (λ (l : List ℕ). take (at + k) (put_mid at (at + k - at) old l)) all ∙ ap (take (at + k)) (sym (append_assoc (take at old) (digits k n) rest))
+        ∙ take_at (take at old ++ digits k n) rest (at + k) (rw (length-append, length-take-le at old (omega arith), digits_length k n) refl)
 
 -- fields one behind the other, each a number and the byte after it
 abbrev pub fields : List (ℕ × ℕ) → List ℕ

@@ -1,7 +1,7 @@
 // The line of an answer: its six fields in decimal, a space between, a newline after. Assumes nothing.
 #![tactic(auto)]
 
-ghost use Rattle.std.specs.Prelude.{◌≡◌, ◌+◌, ◌≤◌, ◌++◌, length, take};
+ghost use Rattle.std.specs.Prelude.{◌≡◌, ◌+◌, ◌≤◌, length, take};
 ghost use Rattle.print.specs.Print.{digits, width, field, printed, longest, Put};
 
 use model::Answer;
@@ -24,13 +24,12 @@ fn digit_count(n: u16) -> usize
     }
 }
 
-// The last `count` digits of a number, from place `at` on; the last is written first.
-fn put_digits(out: &mut [u8], at: usize, count: usize, n: u16)
-    requires { at + count ≤ length out.old }
-    ensures { take (at + count) out.new ≡ take at out.old ++ digits count n }
+// The last digits of a number, as many as there is room for; the last is written first. By index: tried with `iter_mut().rev()`, and of what is written through it a proof knows no byte.
+fn put_digits(out: &mut [u8], n: u16)
+    ensures { out.new ≡ digits (length out.old) n }
 {
     let mut rest = n;
-    for i in (at..at + count).rev() {
+    for i in (0..out.len()).rev() {
         // a digit fits a byte
         out[i] = b'0' + ((rest % 10) as u8);
         rest /= 10;
@@ -42,11 +41,10 @@ fn put_field(out: &mut [u8], at: usize, n: u16, after: u8) -> usize
     requires { at + 6 ≤ length out.old }
     ensures { Put out.old at (field n after) out.new result }
 {
-    let count = digit_count(n);
-    put_digits(out, at, count, n);
-    let next = at + count;
-    out[next] = after;
-    next + 1
+    let end = at + digit_count(n);
+    put_digits(&mut out[at..end], n);
+    out[end] = after;
+    end + 1
 }
 
 // An answer's line, at the front of `out`; its length comes back.
