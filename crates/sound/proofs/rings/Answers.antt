@@ -35,9 +35,12 @@ pub loop-i-preserved-then-v-eq0 : goal.loop-i-preserved-then-v-eq0
 loop-i-preserved-then-v-eq0 g c = (omega arith, λ js T. passed_empty _ _ _ _ _ _ _ _ c.head_at-at.ensures refl c.holder_word-v.ensures _ c.loop-i-test.true _ _ js (c.loop-i.invariant.1 js T) (sym c.vacant.ensures ∙ c.if-vacant.true) c.if-v-eq0.true)
 
 pub loop-i-preserved : goal.loop-i-preserved
-loop-i-preserved g c = (omega arith, λ js T.
-  passed_on _ _ _ _ _ _ _ _ c.head_at-at.ensures refl c.holder_word-v.ensures _ c.loop-i-test.true _ _ js (c.loop-i.invariant.1 js T) (omega arith) _ c.in_order.ensures c.if-not-in_order.false
-  _ _ (c.from.ensures ∙ c.next_field.ensures) (c.from-in-loop-i.ensures ∙ c.next_field-in-loop-i.ensures) _ _ c.walk.ensures _ c.in_ok-found.was)
+loop-i-preserved g c = (
+  omega arith,
+  λ js T.
+      passed_on _ _ _ _ _ _ _ _ c.head_at-at.ensures refl c.holder_word-v.ensures _ c.loop-i-test.true _ _ js (c.loop-i.invariant.1 js T) (omega arith) _ c.in_order.ensures c.if-not-in_order.false
+      _ _ (c.from.ensures ∙ c.next_field.ensures) (c.from-in-loop-i.ensures ∙ c.next_field-in-loop-i.ensures) _ _ c.walk.ensures _ c.in_ok-found.was,
+)
 
 pub returns : goal.returns
 returns g c js T = passed_all _ _ _ _ _ _ _ _ js (c.loop-i.invariant.1 js T) c.loop-i.invariant.0 c.loop-i-test.false
