@@ -122,6 +122,7 @@ impl<'a> Session<'a> {
         ensures same_slices { SameSlices self.old self.new }
     {
         self.answers.clear();
+        // no `split`: what stands behind the last newline is no line yet
         let mut left = piece;
         while let Some(at) = newline(left) {
             self.line.extend(&left[..at]);
