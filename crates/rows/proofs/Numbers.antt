@@ -2,19 +2,18 @@
 -- Assumes nothing.
 use Prim.Native.Nat.{ℕ, zero, suc, ◌+◌, ◌-◌, ◌/◌, ◌%◌, ◌≤◌, ◌<◌}
 use native.Mathlib.Omega.{arith}
-use native.Mathlib.Nat.{add-zero, mod-eq_of_lt}
+use native.Mathlib.Nat.{add-zero, add-sub_cancel_left, sub_self, mod-eq_of_lt}
 use native.Mathlib.Numerals.{add-one}
 use mathlib.Core.Path.{◌≡◌, refl, sym, ap, subst, ◌∙◌}
 use mathlib.Core.Bool.{Bool, true, false, cond}
 use mathlib.Core.List.{List, [], ◌∷◌, ◌++◌, append_assoc, append-nil}
 use lib.Dec.{ltb}
-use borrow.Rule.Slice.PartMut.{mid_of, put_mid}
-use lib.ListN.{length, take, drop, set, length-append, length-replicate, length-set, replicate-append-replicate, drop_of_length-le, take-append-drop}
-use lib.Seq.{take-take, take-set-le, drop-drop, drop-cons, drop-set-lt, get_or-set_same, lt-length-set}
+use lib.ListN.{length, take, drop, set, length-append, length-replicate, replicate-append-replicate}
+use lib.Seq.{take-take, drop-drop}
 use borrow.Author.Tests.{lt-ltb, le-ltb}
 use Rattle.rows.specs.declared.Row.{Row}
 use Rattle.rows.specs.Printed.{spaces, aligned, name, label, printed, Written}
-use Rattle.rows.proofs.Written.{written_one, written_long, written_then, written_over, written_there}
+use Rattle.rows.proofs.Written.{written_none, written_one, written_same, written_long, written_before, written_then, written_over, written_there}
 
 -- ---- lengths
 
@@ -49,53 +48,58 @@ printed_length r = simp (length-append, name_length, aligned_length)
 
 -- ---- digits, from the last to the first
 
--- of m in these columns, those before i are still those of `rest`, those from i on stand there, and before i nothing is written
-pub record Partly (m i rest : ℕ) (old new : List ℕ) : Type 0 where
-  pub whole : aligned (length old) m ≡ aligned i rest ++ drop i new
-  pub ahead : take i new ≡ take i old
-  pub room : i ≤ length new
+-- of m in k columns, those before i are still those of `rest`, and those behind it stand on the page
+pub record Partly (k m at i rest : ℕ) (old new : List ℕ) : Type 0 where
+  pub done : List ℕ
+  pub whole : aligned k m ≡ aligned (i - at) rest ++ done
+  pub written : Written i done old new
+  pub ends : i + length done ≡ at + k
 
 -- before the last digit
-pub partly_start : (m : ℕ) (old : List ℕ) → Partly m (length old) m old old
-partly_start m old = record { whole = rw (drop_of_length-le old {i = length old} (omega arith), append-nil); ahead = refl; room = omega arith }
+pub partly_start : (k m at : ℕ) (old : List ℕ) → at + k ≤ length old → Partly k m at (at + k) m old old
+partly_start k m at old h = record {
+  done = [];
+  whole = rw (add-sub_cancel_left at k, append-nil);
+  written = written_none (at + k) old h;
+  ends = add-zero (at + k);
+}
 
-module _ {m i rest : ℕ} {old new : List ℕ} (p : Partly m i rest old new) (a : 0 < i) where
-  abbrev one_on : List ℕ
-  one_on = set new (i - 1) (48 + rest % 10)
-
+module _ {k m at i rest : ℕ} {old new : List ℕ} (p : Partly k m at i rest old new) (a : at < i) where
   -- the digit before i stands there too
-  behind : drop (i - 1) one_on ≡ (48 + rest % 10) ∷ drop (suc (i - 1)) new
-  behind = rw (drop-cons one_on (i - 1) 0 (lt-length-set new (i - 1) (48 + rest % 10) (omega (arith, p.room))), get_or-set_same new (i - 1) (48 + rest % 10) 0 (omega (arith, p.room)), drop-set-lt (suc (i - 1)) new (i - 1) (48 + rest % 10) (omega arith))
+  digit : Written (i - 1) ((48 + rest % 10) ∷ p.done) old (set new (i - 1) (48 + rest % 10))
+  digit = written_before i (48 + rest % 10) p.done (omega arith) p.written
 
-  ahead : take (i - 1) one_on ≡ take (i - 1) old
-  ahead =
-      take-set-le (i - 1) new (i - 1) (48 + rest % 10) (omega arith)
-      ∙ sym (take-take (i - 1) i new (omega arith)) ∙ ap (take (i - 1)) p.ahead ∙ take-take (i - 1) i old (omega arith)
-
-  split : aligned (length old) m ≡ cond (ltb rest 10) (spaces (i - 1)) (aligned (i - 1) (rest / 10)) ++ drop (i - 1) one_on
+  split : aligned k m ≡ cond (ltb rest 10) (spaces (i - 1 - at)) (aligned (i - 1 - at) (rest / 10)) ++ ((48 + rest % 10) ∷ p.done)
   unfolding aligned
-  split =
-      p.whole ∙ ap (λ (j : ℕ). aligned j rest ++ drop j new) step ∙ append_assoc (cond (ltb rest 10) (spaces (i - 1)) (aligned (i - 1) (rest / 10))) ((48 + rest % 10) ∷ []) (drop (suc (i - 1)) new)
-      ∙ ap (λ (l : List ℕ). cond (ltb rest 10) (spaces (i - 1)) (aligned (i - 1) (rest / 10)) ++ l) (sym behind)
+  split = p.whole ∙ ap (λ (j : ℕ). aligned j rest ++ p.done) step ∙ append_assoc (cond (ltb rest 10) (spaces (i - 1 - at)) (aligned (i - 1 - at) (rest / 10))) ((48 + rest % 10) ∷ []) p.done
     where
-      step : i ≡ suc (i - 1)
+      step : i - at ≡ suc (i - 1 - at)
       step = omega arith
 
   -- there are more
-  pub partly_on : 10 ≤ rest → Partly m (i - 1) (rest / 10) old one_on
-  partly_on h = record { whole = rw (le-ltb rest 10 h) at split; ahead = ahead; room = rw (length-set new (i - 1) (48 + rest % 10)) (omega (arith, p.room)) }
+  pub partly_on : 10 ≤ rest → Partly k m at (i - 1) (rest / 10) old (set new (i - 1) (48 + rest % 10))
+  partly_on h = record { done = (48 + rest % 10) ∷ p.done; whole = rw (le-ltb rest 10 h) at split; written = digit; ends = let e = p.ends in omega arith }
 
   -- it was the first, and before it the columns are blank
-  pub partly_last : rest < 10 → i ≤ length old → old ≡ spaces (length old) → set new (i - 1) (48 + rest) ≡ aligned (length old) m
-  partly_last h fits blank = rw (← (mod-eq_of_lt h)) (sym (rw (lt-ltb rest 10 h) at split ∙ ap (λ (l : List ℕ). l ++ drop (i - 1) one_on) (sym there) ∙ take-append-drop (i - 1) one_on))
+  pub partly_last : rest < 10 → take k (drop at old) ≡ spaces k → Written at (aligned k m) old (set new (i - 1) (48 + rest))
+  partly_last h blank = rw (← (mod-eq_of_lt h)) (rw (rw (lt-ltb rest 10 h) at split) (written_then (let l = spaces_length (i - 1 - at) in omega arith) (written_same at (spaces (i - 1 - at)) old room there) digit))
     where
-      there : take (i - 1) one_on ≡ spaces (i - 1)
-      there = ahead ∙ ap (take (i - 1)) blank ∙ take_spaces (i - 1) (length old) (omega arith)
+      room : at + length (spaces (i - 1 - at)) ≤ length old
+      room = rw (spaces_length (i - 1 - at)) (let r = p.written.room in omega arith)
+
+      less : take (i - 1 - at) (take k (drop at old)) ≡ spaces (i - 1 - at)
+      less = rw blank (take_spaces (i - 1 - at) k (let e = p.ends in omega arith))
+
+      there : take (length (spaces (i - 1 - at))) (drop at old) ≡ spaces (i - 1 - at)
+      there = rw (spaces_length (i - 1 - at)) (sym (take-take (i - 1 - at) k (drop at old) (let e = p.ends in omega arith)) ∙ less)
 
 -- the columns are full
-pub partly_end : {m i rest : ℕ} {old new : List ℕ} → i ≡ 0 → Partly m i rest old new → new ≡ aligned (length old) m
+pub partly_end : {k m at i rest : ℕ} {old new : List ℕ} → i ≡ at → Partly k m at i rest old new → Written at (aligned k m) old new
 unfolding aligned
-partly_end {m} {i} {rest} {old} {new} e p = sym (p.whole ∙ ap (λ (j : ℕ). aligned j rest ++ drop j new) e)
+partly_end {k} {m} {at} {i} {rest} {old} {new} e p = subst (λ (xs : List ℕ). Written at xs old new) (sym all) (subst (λ (j : ℕ). Written j p.done old new) e p.written)
+  where
+    all : aligned k m ≡ p.done
+    all = p.whole ∙ rw (e, sub_self at)
 
 -- ---- a row that is blank from some column on
 
@@ -119,26 +123,14 @@ module _ (k r : ℕ) {at j : ℕ} {done old mid : List ℕ} (b : Begun at j (suc
   blank = sym (λ i. take (spaces_length k i) (drop (next i) mid)) ∙ written_there at (done ++ (32 ∷ [])) (spaces k) (spaces r) [] spread
 
   -- in which a number is written
-  pub begun_on : (m : ℕ) {w : ℕ} {part : List ℕ} → w ≡ k
-      → (mid_of (at + (j + 1)) w mid ≡ spaces (length (mid_of (at + (j + 1)) w mid)) → part ≡ aligned (length (mid_of (at + (j + 1)) w mid)) m)
-      → Begun at (j + suc k) r (done ++ (32 ∷ aligned k m)) old (put_mid (at + (j + 1)) w mid part)
-  begun_on m {w} {part} e put = record {
+  pub begun_on : (m : ℕ) {new : List ℕ} → (take k (drop (at + (j + 1)) mid) ≡ spaces k → Written (at + (j + 1)) (aligned k m) mid new) → Begun at (j + suc k) r (done ++ (32 ∷ aligned k m)) old new
+  begun_on m {new} put = record {
     long = rw (length-append, b.long, aligned_length k m);
-    written = subst (λ (l : List ℕ). Written at l old (put_mid (at + (j + 1)) w mid part)) same (written_over at (done ++ (32 ∷ [])) (spaces k) (spaces r) (aligned k m) spread (aligned_length k m ∙ sym (spaces_length k)) (subst (λ (i : ℕ). Written i (aligned k m) mid (put_mid (at + (j + 1)) w mid part)) (sym next) number));
+    written = subst (λ (l : List ℕ). Written at l old new) same (written_over at (done ++ (32 ∷ [])) (spaces k) (spaces r) (aligned k m) spread (aligned_length k m ∙ sym (spaces_length k)) (subst (λ (i : ℕ). Written i (aligned k m) mid new) (sym next) (put blank)));
   }
     where
       same : (done ++ (32 ∷ [])) ++ (aligned k m ++ spaces r) ≡ (done ++ (32 ∷ aligned k m)) ++ spaces r
       same = append_assoc done (32 ∷ []) (aligned k m ++ spaces r) ∙ sym (append_assoc done (32 ∷ aligned k m) (spaces r))
-
-      -- the columns are k spaces
-      columns : mid_of (at + (j + 1)) w mid ≡ spaces k
-      columns = rw e blank
-
-      number : Written (at + (j + 1)) (aligned k m) mid (put_mid (at + (j + 1)) w mid part)
-      number = record {
-        room = rw (aligned_length k m) (omega (arith, written_long b.written, rw (length-append, b.long, spaces_length (suc k + r)) at b.written.room));
-        bytes = rw (rw (columns, spaces_length k) at put refl, e, aligned_length k m, ← (drop-drop k (at + (j + 1)) mid)) refl;
-      }
 
 -- a name over the first two of 28 spaces
 pub begun_name : (at kind : ℕ) {old mid new : List ℕ} → Written at (spaces 28) old mid → new ≡ take at mid ++ (name kind ++ drop 2 (drop at mid)) → Begun at 2 26 (name kind) old new

@@ -1,19 +1,49 @@
 -- Laws of bytes that are written on a page: some behind others, one over another, and a number over blank columns. Assumes nothing.
-use Prim.Native.Nat.{ℕ, ◌+◌, ◌<◌}
+use Prim.Native.Nat.{ℕ, suc, ◌+◌, ◌-◌, ◌≤◌, ◌<◌}
 use native.Mathlib.Omega.{arith}
-use native.Mathlib.Nat.{add_assoc}
+use native.Mathlib.Nat.{add_assoc, add-zero}
 use native.Mathlib.Numerals.{add-one}
-use mathlib.Core.Path.{◌≡◌, refl, sym, ap, ◌∙◌}
+use mathlib.Core.Path.{◌≡◌, refl, sym, ap, subst, ◌∙◌}
 use mathlib.Core.List.{List, [], ◌∷◌, ◌++◌, append_assoc}
-use lib.ListN.{length, take, drop, set, length-append, length-drop}
-use lib.Seq.{length-take-le, take_at, drop_at, drop-drop, set_split}
+use lib.ListN.{length, take, drop, set, get_or, length-append, length-drop, take-append-drop}
+use lib.Seq.{length-take-le, take_at, drop_at, take-suc, drop-drop, set_at, set_split, append_snoc}
 use Rattle.rows.specs.Printed.{Written}
 
 -- ---- any bytes
 
+-- none
+pub written_none : (at : ℕ) (old : List ℕ) → at ≤ length old → Written at [] old old
+written_none at old h = record { room = simp add-zero h; bytes = sym (rw (add-zero at) (take-append-drop at old)) }
+
 -- one
 pub written_one : (at b : ℕ) (old : List ℕ) → at < length old → Written at (b ∷ []) old (set old at b)
 written_one at b old h = record { room = omega arith; bytes = rw (add-one at) (set_split old at b h) }
+
+-- those that stand there already
+pub written_same : (at : ℕ) (xs old : List ℕ) → at + length xs ≤ length old → take (length xs) (drop at old) ≡ xs → Written at xs old old
+written_same at xs old h e = record {
+  room = h;
+  bytes = sym (take-append-drop at old) ∙ ap (λ (l : List ℕ). take at old ++ l) (sym (take-append-drop (length xs) (drop at old)) ∙ (λ i. e i ++ drop-drop (length xs) at old i));
+}
+
+-- one more before them
+pub written_before : (i b : ℕ) (xs : List ℕ) {old new : List ℕ} → 0 < i → Written i xs old new → Written (i - 1) (b ∷ xs) old (set new (i - 1) b)
+written_before i b xs {old} {new} h w = go (i - 1) (subst (λ (k : ℕ). Written k xs old new) next w)
+  where
+    next : i ≡ suc (i - 1)
+    next = omega arith
+
+    go : (j : ℕ) → Written (suc j) xs old new → Written j (b ∷ xs) old (set new j b)
+    go j v = record {
+      room = let r = v.room in omega arith;
+      bytes = ap (λ (l : List ℕ). set l j b) there ∙ set_at (take j old) (get_or old j 0) (xs ++ drop (suc j + length xs) old) b j (length-take-le j old (let r = v.room in omega arith)) ∙ ap (λ (m : ℕ). take j old ++ (b ∷ (xs ++ drop m old))) along;
+    }
+      where
+        along : suc j + length xs ≡ j + suc (length xs)
+        along = omega arith
+
+        there : new ≡ take j old ++ (get_or old j 0 ∷ (xs ++ drop (suc j + length xs) old))
+        there = v.bytes ∙ rw (take-suc old j 0 (let r = v.room in omega arith)) (append_snoc (take j old) (get_or old j 0) (xs ++ drop (suc j + length xs) old))
 
 module _ {at : ℕ} {xs old new : List ℕ} (w : Written at xs old new) where
   -- they stand behind what was there

@@ -1,7 +1,7 @@
 // A row of the yard sheet: 28 columns and a newline, on a lent page of bytes. Assumes nothing.
 #![tactic(auto)]
 
-ghost use Rattle.std.specs.Prelude.{◌≡◌, List, ◌++◌, ℕ, ◌+◌, ◌≤◌, length};
+ghost use Rattle.std.specs.Prelude.{◌≡◌, List, ◌++◌, ℕ, ◌+◌, ◌≤◌, length, take, drop};
 ghost use Rattle.rows.specs.Printed.{spaces, aligned, name, label, printed, Written};
 
 use model::kinds::{LOCK, PARK, READY};
@@ -26,17 +26,18 @@ fn blank(page: &mut [u8], at: usize)
     page[at..at + 28].fill(b' ');
 }
 
-// A number, right-aligned in these columns, which are blank; the last digit is written first. A digit fits a byte. No `write!`: no clause says which bytes it writes; by index, as in `print`, since of what `iter_mut().rev()` writes a proof knows none.
-fn put_number(columns: &mut [u8], number: u16)
-    ensures { columns.old ≡ spaces (length columns.old) → columns.new ≡ aligned (length columns.old) number }
+// A number, right-aligned in the columns from `at` on, which are blank; the last digit is written first. A digit fits a byte. No `write!`: no clause says which bytes it writes. By place in the page, not on a lent part of it: so `partly_on` and `partly_last` have it.
+fn put_number(page: &mut [u8], at: usize, columns: usize, number: u16)
+    requires { at + columns ≤ length page.old }
+    ensures { take columns (drop at page.old) ≡ spaces columns → Written at (aligned columns number) page.old page.new }
 {
     let mut rest = number;
-    for i in (0..columns.len()).rev() {
+    for i in (at..at + columns).rev() {
         if rest < 10 {
-            columns[i] = b'0' + (rest as u8);
+            page[i] = b'0' + (rest as u8);
             return;
         }
-        columns[i] = b'0' + ((rest % 10) as u8);
+        page[i] = b'0' + ((rest % 10) as u8);
         rest /= 10;
     }
 }
@@ -60,7 +61,7 @@ pub fn put_label(page: &mut [u8], at: usize, kind: u16, number: u16)
 {
     blank(page, at);
     page[at..at + 2].copy_from_slice(&letters_of(kind));
-    put_number(&mut page[at + 3..at + 6], number);
+    put_number(page, at + 3, 3, number);
 }
 
 // Then its other numbers, and the newline.
@@ -68,10 +69,10 @@ pub fn put_rest(page: &mut [u8], at: usize, row: Row)
     requires { at + 29 ≤ length page.old }
     ensures { (old : List ℕ) → Written at (label row.kind row.number ++ spaces 22) old page.old → Written at (printed row) old page.new }
 {
-    put_number(&mut page[at + 7..at + 11], row.count);
-    put_number(&mut page[at + 12..at + 16], row.first);
-    put_number(&mut page[at + 17..at + 21], row.last);
-    put_number(&mut page[at + 22..at + 26], row.holder);
-    put_number(&mut page[at + 27..at + 28], row.wakeup);
+    put_number(page, at + 7, 4, row.count);
+    put_number(page, at + 12, 4, row.first);
+    put_number(page, at + 17, 4, row.last);
+    put_number(page, at + 22, 4, row.holder);
+    put_number(page, at + 27, 1, row.wakeup);
     page[at + 28] = b'\n';
 }

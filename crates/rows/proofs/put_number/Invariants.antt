@@ -1,7 +1,8 @@
--- `rows::put_number` meets its contract. The loop's invariant: the digits from i on stand in the columns, and what is left of the number is to come.
+-- `rows::put_number` meets its contract. The loop's invariant: the digits behind i stand on the page, and what is left of the number is to come.
 -- Assumes nothing.
+use Prim.Native.Nat.{◌≤◌}
 use Rattle.rows.proofs.Numbers.{Partly}
 use Rattle.rows.proofs.put_number.Given as goal
 
 abbrev pub invariant-loop-i : goal.invariant-loop-i
-invariant-loop-i l = Partly l.number l.i l.rest l.initial.columns l.columns
+invariant-loop-i l = (l.at ≤ l.i) × Partly l.columns l.number l.at l.i l.rest l.initial.page l.page
