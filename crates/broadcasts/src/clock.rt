@@ -36,11 +36,12 @@ fn sweep_all(area: &mut [u16], shape: Shape, time: u16)
     ensures { (s : State model) → Holds shape area.old s → Loose shape area.old area.new s.fields (staying s.fields time shape.conditions s.queues) }
 {
     let end = area::records_at(shape);
-    let mut from = area::conditions_at(shape);
+    let mut i = area::conditions_at(shape);
     // not a `for` with the test in it: measured with 255 conditions, a Tick then takes 245 ns in place of 181
-    while let Some(ahead) = next_waited(&area[from..end]) {
-        crowds::sweep(area, shape, from + ahead, time);
-        from += ahead + 1;
+    while let Some(ahead) = next_waited(&area[i..end]) {
+        i += ahead;
+        crowds::sweep(area, shape, i, time);
+        i += 1;
     }
 }
 

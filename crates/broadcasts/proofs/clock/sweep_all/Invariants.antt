@@ -9,11 +9,11 @@ use Rattle.broadcasts.proofs.clock.sweep_all.Given as goal
 
 abbrev pub invariant-loop-ahead : goal.invariant-loop-ahead
 invariant-loop-ahead l = record {
-  begun : conditions_at l.shape ≤ l.from;
-  at_most : l.from ≤ records_at l.shape;
+  begun : conditions_at l.shape ≤ l.i;
+  at_most : l.i ≤ records_at l.shape;
   long : length l.area ≡ length l.initial.area;
-  swept : (s : State model) → Holds l.shape l.initial.area s → Loose l.shape l.initial.area l.area s.fields (staying s.fields l.time (l.from - conditions_at l.shape) s.queues);
+  swept : (s : State model) → Holds l.shape l.initial.area s → Loose l.shape l.initial.area l.area s.fields (staying s.fields l.time (l.i - conditions_at l.shape) s.queues);
 }
 
 abbrev pub decreases-loop-ahead : goal.decreases-loop-ahead
-decreases-loop-ahead l = l.end - l.from
+decreases-loop-ahead l = l.end - l.i
