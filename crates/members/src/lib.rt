@@ -112,7 +112,7 @@ impl Roll<'_> {
         let last = (tail - 1) * links::RECORD;
         let mut p = usize::from(links::next_field(self.records[last]));
         let mut before = layout::HIGHEST * links::PRIORITY;
-        // as a `for` over the count 50 at a lock take 1.12 of the time, and 1,023 on 255 conditions 1.3
+        // as a `for` over the count, 50 who queue at a lock are checked in 196 ns in place of 181
         let mut found = count;
         while found < processes {
             if !eligible(processes, holder, p) {
