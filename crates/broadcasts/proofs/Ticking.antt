@@ -1,11 +1,7 @@
 -- Tick: those whose timer rings leave their conditions, and then wake in process order. Who rings waits, so each condition is without them when
 -- it is swept, no other queue has one of them, and they are those of the rule. Assumes nothing.
-use Rattle.std.proofs.Common.{◌≡◌, ℕ, zero, suc, ◌+◌, ◌-◌, ◌%◌, ◌<◌, ◌≤◌, Bool, true, false, not, ◌||◌, ◌≢◌, List, [], ◌∷◌, ◌++◌, Some, None, length, get_or, drop, position, nat_le, slice_range, length-drop, sym, refl, ap, ◌∙◌, subst, true≢false, add-one, arith}
-use Rattle.std.specs.List.{list_any, position_or_len}
-use Rattle.std.proofs.lemmas.List.{get_or-take, get_or-drop, length-take-le}
-use Rattle.std.proofs.lemmas.List.Sums.{prefix_len_passes}
-use Rattle.std.proofs.lemmas.List.Quantifiers.{position-Some}
-use Rattle.std.proofs.lemmas.Bool.Decides.{nat_tests}
+use Rattle.std.proofs.Common.{◌≡◌, ℕ, zero, suc, ◌+◌, ◌-◌, ◌%◌, ◌<◌, ◌≤◌, Bool, true, false, not, ◌||◌, ◌≢◌, List, [], ◌∷◌, length, get_or, sym, refl, ap, ◌∙◌, subst, true≢false, add-one, arith}
+use Rattle.std.specs.List.{list_any}
 use native.Mathlib.Decide.{ℕ_discrete}
 use borrow.Rule.Slice.PartMut.{mid_of}
 use Rattle.model.specs.declared.Shape.{Shape}
@@ -92,29 +88,9 @@ condition_here n i a b = (bounds_inside n.conditions (i - conditions_at n + 1) (
 
 -- ---- conditions that nobody waits on
 
--- where no word is 8 or more
-none_waits : (xs : List ℕ) (k : ℕ) → None ≡ position (nat_le 8) xs → k < length xs → nat_le 8 (get_or xs k 0) ≡ false
-none_waits xs k e h =
-    let all : length xs ≤ position_or_len (nat_le 8) xs = grind (arith, nat_tests) in
-    let p = prefix_len_passes (λ x. not (nat_le 8 x)) xs k 0 (omega arith) in
-    grind (arith, nat_tests)
-
--- the words from `from` on that are passed, to the first that is 8 or more, or to the end
-module _ (ws : List ℕ) (from end : ℕ) (fits : end ≤ length ws) where
-  low : (i : ℕ) → from ≤ i → i < end → nat_le 8 (get_or (slice_range ws from end) (i - from) 0) ≡ false → get_or ws i 0 < 8
-  low i a b h =
-      let e : from + (i - from) ≡ i = omega arith in
-      let q : nat_le 8 (get_or ws i 0) ≡ false = rw (get_or-take (end - from) (drop from ws) (i - from) 0 (omega arith), get_or-drop from ws (i - from) 0, e) at h in
-      grind (arith, nat_tests)
-
-  pub waited_some : {k : ℕ} → Some k ≡ position (nat_le 8) (slice_range ws from end) → (from + k < end) × ((i : ℕ) → from ≤ i → i < from + k → get_or ws i 0 < 8)
-  waited_some {k} e =
-      let p = position-Some (nat_le 8) (slice_range ws from end) k 0 (sym e) in
-      let h : from + k < end = omega (arith, length-take-le {A = ℕ}, length-drop {A = ℕ}, p.0) in
-      (h, λ i a b. low i a (omega arith) (p.2 (i - from) (omega arith)))
-
-  pub waited_none : None ≡ position (nat_le 8) (slice_range ws from end) → (i : ℕ) → from ≤ i → i < end → get_or ws i 0 < 8
-  waited_none e i a b = low i a b (none_waits (slice_range ws from end) (i - from) e (omega (arith, length-take-le {A = ℕ}, length-drop {A = ℕ})))
+-- one word more that is below 8
+pub low_next : (ws : List ℕ) (from i : ℕ) → ((k : ℕ) → from ≤ k → k < i → get_or ws k 0 < 8) → get_or ws i 0 < 8 → (k : ℕ) → from ≤ k → k < i + 1 → get_or ws k 0 < 8
+low_next ws from i low here k a b = elim (ℕ_discrete k i) [ yes e ↦ rw e here | no e ↦ low k a (omega arith) ]
 
 -- conditions 1 to k are swept, and the words of those behind, to where j stands, are below 8: they count as swept too
 pub sweep_skips : {n : Shape} {old new : List ℕ} {f : Fields} (qs : Queue → List ℕ) (time k from j : ℕ) → from ≡ conditions_at n + k → from ≤ j → j ≤ records_at n → ((i : ℕ) → from ≤ i → i < j → get_or new i 0 < 8)

@@ -1,5 +1,5 @@
 // The clock: Tick. Assumes nothing.
-ghost use Rattle.std.specs.Prelude.{◌≡◌, true, [], length, nat_le, position};
+ghost use Rattle.std.specs.Prelude.{◌≡◌, true, [], ℕ, ◌<◌, ◌≤◌, length, slice_index};
 ghost use Rattle.model.specs.declared.Call.TheVariants.{Tick};
 ghost use Rattle.model.specs.Rules.{due};
 ghost use Rattle.model.specs.Machine.{State, model};
@@ -23,11 +23,16 @@ fn nobody_due(area: &[u16], shape: Shape, time: u16) -> bool
     !(1..shape.processes + 1).any(|p| links::rings(&area[at..], p, time))
 }
 
-// Where the first of these words stands that says that somebody waits. Most conditions are empty.
-fn next_waited(words: &[u16]) -> Option<usize>
-    ensures { result ≡ position (nat_le 8) words.now }
+// Where the first word from `from` on stands that says that somebody waits, `end` if none before it does. Most conditions are empty. With `position` and an Option a Tick that wakes all of 1,023 on 255 conditions takes 1.09 to 1.17 of the time.
+fn next_waited(area: &[u16], from: usize, end: usize) -> usize
+    requires { (from ≤ end) × (end ≤ length area.now) }
+    ensures { (from ≤ result) × (result ≤ end) × ((k : ℕ) → from ≤ k → k < result → slice_index area.now k < 8) }
 {
-    words.iter().position(|word| links::NUMBER <= *word)
+    let mut i = from;
+    while i < end && area[i] < links::NUMBER {
+        i += 1;
+    }
+    i
 }
 
 // Those whose timer rings at this time leave their conditions.
@@ -36,12 +41,11 @@ fn sweep_all(area: &mut [u16], shape: Shape, time: u16)
     ensures { (s : State model) → Holds shape area.old s → Loose shape area.old area.new s.fields (staying s.fields time shape.conditions s.queues) }
 {
     let end = area::records_at(shape);
-    let mut i = area::conditions_at(shape);
+    let mut i = next_waited(area, area::conditions_at(shape), end);
     // not a `for` with the test in it: measured with 255 conditions, a Tick then takes 245 ns in place of 181
-    while let Some(ahead) = next_waited(&area[i..end]) {
-        i += ahead;
+    while i < end {
         crowds::sweep(area, shape, i, time);
-        i += 1;
+        i = next_waited(area, i + 1, end);
     }
 }
 

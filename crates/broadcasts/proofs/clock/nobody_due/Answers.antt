@@ -1,5 +1,5 @@
 -- `broadcasts::clock::nobody_due` meets its contract: it asks of the processes from 1 on, one after the other, whether their timers ring. Assumes nothing.
-use Rattle.std.proofs.Common.{◌≡◌, ◌-◌, rules, refl, sym, ◌∙◌, length}
+use Rattle.std.proofs.Common.{◌-◌, rules, refl, sym, ◌∙◌, length}
 use borrow.Author.Tests.{tests, not-true}
 use borrow.Rule.Slice.PartMut.{mid_of}
 use Rattle.std.proofs.lemmas.Iterator.Search.{any_from_yields_List}

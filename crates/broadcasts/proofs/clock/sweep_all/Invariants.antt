@@ -7,13 +7,8 @@ use Rattle.area.specs.Loose.{Loose}
 use Rattle.crowds.specs.Crowds.{staying}
 use Rattle.broadcasts.proofs.clock.sweep_all.Given as goal
 
-abbrev pub invariant-loop-ahead : goal.invariant-loop-ahead
-invariant-loop-ahead l = record {
-  begun : conditions_at l.shape ≤ l.i;
-  at_most : l.i ≤ records_at l.shape;
-  long : length l.area ≡ length l.initial.area;
-  swept : (s : State model) → Holds l.shape l.initial.area s → Loose l.shape l.initial.area l.area s.fields (staying s.fields l.time (l.i - conditions_at l.shape) s.queues);
-}
+abbrev pub invariant-loop-i : goal.invariant-loop-i
+invariant-loop-i l = (conditions_at l.shape ≤ l.i) × (l.i ≤ records_at l.shape) × (length l.area ≡ length l.initial.area) × ((s : State model) → Holds l.shape l.initial.area s → Loose l.shape l.initial.area l.area s.fields (staying s.fields l.time (l.i - conditions_at l.shape) s.queues))
 
-abbrev pub decreases-loop-ahead : goal.decreases-loop-ahead
-decreases-loop-ahead l = l.end - l.i
+abbrev pub decreases-loop-i : goal.decreases-loop-i
+decreases-loop-i l = l.end - l.i
