@@ -182,7 +182,7 @@ pub fn put(area: &mut [u16], place: Place, value: u16)
     store(area, place, value);
 }
 
-// The bit that says whether a number is other than 0: a lock with this holder is locked, a wait of so many ticks is armed.
+// The bit, a number as the parts of a word are, that says whether a number is other than 0: a lock with this holder is locked, a wait of so many ticks is armed.
 pub fn bit_of(v: u16) -> u16
     ensures { (result ≡ bit (some v)) × (result < 2) }
 {
@@ -218,7 +218,7 @@ pub fn set_rank(records: &mut [u16], p: u16, v: u16)
 {
     let at = links::link_at(p);
     let link = records[at];
-    // a constant, so `as` is no step that could fail
+    // a constant: `u32` has no `From<usize>`
     records[at] = with_part(link, links::PRIORITY, links::PRIORITIES as u32, v);
 }
 

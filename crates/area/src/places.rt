@@ -86,11 +86,10 @@ pub fn holder(shape: Shape, l: u16) -> Place
     requires { inside shape.locks l ≡ true }
     ensures { Lies shape (kept (Field.holder l)) result }
 {
-    // a constant, so `as` is no step that could fail
     Place {
         at: lock_at(shape, l) + layout::HOLDER,
         unit: links::NUMBER,
-        span: links::NUMBERS as u32,
+        span: u32::from(links::NUMBERS),
     }
 }
 

@@ -1,4 +1,5 @@
 // Many wake at once, on an area that holds a valid state: Broadcast here, Tick in clock. Assumes nothing.
+// Why an area and its counts are two parameters: crates/area/src/lib.rt, above its reads and writes.
 #![tactic(auto)]
 
 ghost use Rattle.std.specs.Prelude.{◌≡◌, ℕ, true, length};

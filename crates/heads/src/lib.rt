@@ -89,7 +89,7 @@ pub fn head_at(kind: u16, i: usize) -> usize
     }
 }
 
-// The holder's word, 0 for a queue that has none.
+// The holder's word, 0 for a queue that has none, as `holder_in` has it.
 pub fn holder_word(heads: &[u16], kind: u16, at: usize) -> u16
     requires { kind ≡ 1 → at + 1 < length heads.now }
     ensures { result ≡ holder_in heads.now kind at }

@@ -122,7 +122,7 @@ pub fn kernel_reenter(area: &mut [u16], lock: u16, condition: u16) -> u64
     cross(monitor::reenter(area, lock, condition))
 }
 
-// ---- reads
+// ---- reads; List's kind is a number, as C has it
 
 pub fn kernel_list(area: &[u16], kind: u16, number: u16, buffer: &mut [u16]) -> u64
     ensures { Writes kind number area.now buffer.old buffer.new result }

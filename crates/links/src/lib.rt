@@ -36,7 +36,7 @@ const FIELD: u16 = 8184;
 
 pub const LOW: u16 = 7;
 
-// ---- readers
+// ---- readers; the records and p stay two parameters, since a struct of both would be made anew for each p
 
 // The process's number in a word: the next in a link, a tail, a holder, or who runs.
 pub fn next_field(word: u16) -> u16

@@ -1,4 +1,5 @@
 // Monitor locks, on an area that holds a valid state: Enter and Exit here, Reenter in again. Assumes nothing.
+// Why an area and its counts are two parameters: crates/area/src/lib.rt, above its reads and writes.
 #![tactic(auto)]
 
 ghost use Rattle.std.specs.Prelude.{◌≡◌, true, [], ◌∷◌, length};

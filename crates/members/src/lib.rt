@@ -66,7 +66,7 @@ fn tidy(kind: u16, link: u16) -> bool
     }
 }
 
-// Whether a record fits a queue of this kind.
+// Whether a record fits a queue of this kind, which is a number, since `fitting` answers every number.
 fn fits(kind: u16, link: u16, flags: u16, timer: u16) -> bool
     ensures { result ≡ fitting kind link flags timer }
 {

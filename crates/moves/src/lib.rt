@@ -1,4 +1,5 @@
 // The queues of an area, as rings in its records: reads of one, and the move of a process from one to another. Assumes nothing.
+// Why an area and its counts are two parameters: crates/area/src/lib.rt, above its reads and writes.
 #![tactic(auto)]
 
 ghost use Rattle.std.specs.Prelude.{◌≡◌, true, cond, Some, None, ◌++◌, ◌<◌, ◌≤◌, length, drop};
@@ -134,7 +135,7 @@ pub fn send(area: &mut [u16], base: usize, from: usize, to: usize, p: u16) -> bo
     true
 }
 
-// p, which stands in ready, moves to the lock or the condition whose tail stands at `to`; waits is 1 if that is a condition. How many are ahead of it there, counted on the one walk: to its place or, where it is the last, along the queue.
+// p, which stands in ready, moves to the lock or the condition whose tail stands at `to`; waits, a bit as its word has it, is 1 if that is a condition. How many are ahead of it there, counted on the one walk: to its place or, where it is the last, along the queue.
 pub fn queue(area: &mut [u16], base: usize, to: usize, p: u16, waits: u16) -> u16
     requires { (n : Shape) × (base ≡ records_at n) × (m : Moves n area.old (at n (Tail ready)) to p waits) × (m.stood ≡ true) }
     ensures { (n : Shape) → base ≡ records_at n → (m : Moves n area.old (at n (Tail ready)) to p waits) → m.stood ≡ true → (result ≡ length (ahead_of p ((sent p m.to m.state).queues m.to))) × Becomes n area.old area.new (sent p m.to m.state) }

@@ -45,7 +45,7 @@ pub fn report(outcome: Result<u16, Refusal>) -> Report
     }
 }
 
-// Dispatch, and the answer of an accepted call.
+// Dispatch, and the answer of an accepted call; of any mark, as its contract has it.
 pub fn finish(area: &mut [u16], shape: Shape, mark: u16, moved: u16, ahead: u16) -> Answer
     requires { Held shape area.old }
     ensures { (s : State model) → Holds shape area.old s → Gives shape area.old area.new result (machine.finish model s.fields s.queues mark moved ahead) }

@@ -1,4 +1,5 @@
 // What a call comes to: dispatch, which ends every accepted one. `answers` has its answer, and `codes` the tests that calls share. Assumes nothing.
+// Why an area and its counts are two parameters: crates/area/src/lib.rt, above its reads and writes.
 #![tactic(auto)]
 
 ghost use Rattle.std.specs.Prelude.{◌≡◌};

@@ -1,4 +1,5 @@
 // Places in queues, on an area that holds a valid state: Requeue here, SetPriority in ranks, List in listing. Assumes nothing.
+// Why an area and its counts are two parameters: crates/area/src/lib.rt, above its reads and writes.
 #![tactic(auto)]
 
 ghost use Rattle.std.specs.Prelude.{◌≡◌, ◌≢◌, true, false, List, [], ◌∷◌, ℕ};

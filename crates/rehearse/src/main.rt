@@ -36,6 +36,7 @@ impl Player<'_> {
         ensures { Rehearsed self.old.session.desk.area.now self.new.session.desk.area.now }
     {
         self.session.begin();
+        // no `loop`: it has to end, and no input brings more reads
         for _ in 0..u64::MAX {
             let Some(n) = self.turn(input, output) else {
                 let _ = errors.write_all(b"rehearse: standard input cannot be read\n");

@@ -86,6 +86,7 @@ fn serve(area: &mut [u16], log: &[u16], answers: &mut [u64], k: usize) -> bool
 pub fn replay(area: &mut [u16], log: &[u16], answers: &mut [u64]) -> usize
     ensures { Replayed log.now area.old area.new answers.old answers.new result }
 {
+    // by number: of what is written through `iter_mut` a proof knows nothing
     for done in 0..answers.len() {
         if !serve(area, log, answers, done) {
             return done;

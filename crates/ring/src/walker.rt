@@ -61,7 +61,7 @@ pub fn walk(records: &[u16], tail: u16, out: &mut [u16]) -> u16
     requires { (xs : List ℕ) × Ring records.now tail xs × (tail ≢ 0) × (length xs ≤ length out.old) }
     ensures { (xs : List ℕ) → Ring records.now tail xs → (result + 1 ≡ length xs) × (out.new ≡ take result xs ++ drop result out.old) }
 {
-    // the count is the answer
+    // the count is the answer; no `zip` with the slots, since of what is written through `iter_mut` a proof knows nothing
     let mut count: u16 = 0;
     for p in Walker::new(records, tail) {
         out[usize::from(count)] = p;

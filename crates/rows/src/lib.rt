@@ -6,7 +6,7 @@ ghost use Rattle.rows.specs.Printed.{spaces, aligned, name, label, printed, Writ
 
 use model::kinds::{LOCK, PARK, READY};
 
-// What the row of a queue says; what the queue does not have is 0. The kind is List's number.
+// What the row of a queue says; what the queue does not have is 0, as the row shows it. The kind is List's number.
 #[derive(Clone, Copy)]
 pub struct Row {
     pub kind: u16,

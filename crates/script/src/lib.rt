@@ -28,7 +28,7 @@ pub enum Name {
     Reenter,
 }
 
-// What a line says: a call, or Start with its shape and the count of its bytes.
+// What a line says: a call, or Start with its shape and the count of its bytes, which `Tells` takes from the room; a slice would keep the room lent.
 #[derive(Clone, Copy)]
 pub enum Line {
     Call(Call),

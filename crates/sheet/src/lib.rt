@@ -1,4 +1,5 @@
 // The yard sheet, on an area that holds a state: a row for each queue, on a lent page of bytes. Assumes nothing.
+// Why an area and its counts are two parameters: crates/area/src/lib.rt, above its reads and writes.
 #![tactic(auto)]
 
 ghost use Rattle.std.specs.Prelude.{◌≡◌, true, ◌+◌, ◌*◌, ◌≤◌, length};
@@ -36,7 +37,7 @@ impl<'a> Model for Yard<'a> {
 }
 
 impl<'a> Yard<'a> {
-    // ---- what a row says
+    // ---- what a row says; a queue is named by List's kind and a number, as `queue_by` has it
 
     // The holder, where the queue is a lock's.
     fn holder_in(&self, kind: u16, number: u16) -> u16
@@ -96,6 +97,7 @@ impl<'a> Yard<'a> {
         requires { at + 29 * count_of self.now.shape KIND ≤ length page.old }
         ensures { Rows self.now (queue_by KIND) (count_of self.now.shape KIND) at page.old page.new result }
     {
+        // no `chunks_exact_mut`: of what is written through an iterator a proof knows nothing
         let mut next = at;
         for number in 1..=self.count_of(KIND) {
             let row = self.row_of(KIND, number);

@@ -1,4 +1,5 @@
 // Reads of the timers, on an area that holds a valid state: who is due within so many ticks, and who is the nearest. Assumes nothing.
+// Why an area and its counts are two parameters: crates/area/src/lib.rt, above its reads and writes.
 #![tactic(auto)]
 
 ghost use Rattle.std.specs.Prelude.{◌≡◌, true, ◌++◌, ◌≤◌, length, drop};

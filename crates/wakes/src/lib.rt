@@ -1,4 +1,5 @@
 // One process wakes from a condition, on an area that holds a valid state: Notify and Naked here, Abort and SetAbortable in aborts. Assumes nothing.
+// Why an area and its counts are two parameters: crates/area/src/lib.rt, above its reads and writes.
 #![tactic(auto)]
 
 ghost use Rattle.std.specs.Prelude.{◌≡◌, true, [], ◌∷◌, length};

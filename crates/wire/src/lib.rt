@@ -44,7 +44,7 @@ pub fn pack(a: Answer) -> u64
     ])
 }
 
-// List's code and count, ten bits each, code lowest.
+// List's code and count, ten bits each, code lowest; apart from the next, since one of a const argument would ask of its caller that it is at most 20.
 pub fn pack_list(r: Report) -> u64
     ensures { result ≡ packed 10 (report_fields r) }
 {
