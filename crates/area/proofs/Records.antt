@@ -11,7 +11,8 @@ use mathlib.Core.Logic.{◌≢◌}
 use mathlib.Core.List.{List, ◌++◌, append-nil}
 use lib.Dec.{eqb}
 use lib.ListN.{length, get_or, drop, take, length-append, length-drop, drop_of_length-le, get_or-append}
-use lib.Seq.{ext_get_or, get_or-append-add, get_or-drop, get_or-take, length-take-le, take_all}
+use lib.Seq.{ext_get_or, get_or-append-add, get_or-drop, get_or-take, length-take-le}
+use Rattle.std.proofs.lemmas.List.{take_rest}
 use Rattle.model.specs.declared.Shape.{Shape}
 use Rattle.model.specs.Queue.{Queue, inside, exists, member}
 use Rattle.model.specs.Queue.Queue.{ready, park, lock, condition}
@@ -34,7 +35,7 @@ use Rattle.area.proofs.Rings.{ring_ext, queue_once, member_inside, laid_ring}
 -- ---- a part from a on, lent and back
 
 pub part_lent : (a : ℕ) (ws : List ℕ) → mid_of a (length ws - a) ws ≡ drop a ws
-part_lent a ws = take_all (length ws - a) (drop a ws) (le_of_eq (length-drop a ws))
+part_lent a ws = take_rest ws a
 
 pub part_back : (a : ℕ) (ws ys : List ℕ) → put_mid a (length ws - a) ws ys ≡ take a ws ++ ys
 part_back a ws ys = rw (drop_of_length-le (drop a ws) {i = length ws - a} (le_of_eq (length-drop a ws)), append-nil ys)

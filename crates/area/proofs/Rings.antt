@@ -17,14 +17,11 @@ use Rattle.model.proofs.Tests.{holds, fails, EqCase, eqb_case, eqb_yes, eqb_no, 
 use Rattle.model.proofs.Lists.{member_count, member_here, member_there, nobody}
 use Rattle.model.proofs.Places.{stands_at, at_place}
 use Rattle.ring.specs.Ring.{last_of, Linked}
+use Rattle.ring.proofs.Lists.{member_last}
 use Rattle.area.specs.Layout.{for_each}
 use Rattle.area.specs.State.{last, after_in, queues, next_in}
 
 -- ---- chains
-
-pub last_member : (x : ℕ) (xs : List ℕ) → member (last_of x xs) (x ∷ xs) ≡ true
-last_member x [] = member_here x []
-last_member x (y ∷ ys) = member_there (last_of y ys) x (y ∷ ys) (last_member y ys)
 
 pub chain_ext : (f g : ℕ → ℕ) (x : ℕ) (xs : List ℕ) → ((p : ℕ) → member p (x ∷ xs) ≡ true → f p ≡ g p) → Linked f x xs → Linked g x xs
 chain_ext f g x [] h c = tt
@@ -33,7 +30,7 @@ chain_ext f g x (y ∷ ys) h c = (sym (h x (member_here x (y ∷ ys))) ∙ c.0, 
 -- a ring goes by the nexts of its own processes
 pub ring_ext : (f g : ℕ → ℕ) (xs : List ℕ) → ((p : ℕ) → member p xs ≡ true → f p ≡ g p) → Linked f (last xs) xs → Linked g (last xs) xs
 ring_ext f g [] h c = tt
-ring_ext f g (x ∷ xs) h c = (sym (h (last_of x xs) (last_member x xs)) ∙ c.0, chain_ext f g x xs h c.1)
+ring_ext f g (x ∷ xs) h c = (sym (h (last_of x xs) (member_last x xs)) ∙ c.0, chain_ext f g x xs h c.1)
 
 -- two that have the same chain agree on all of it but its last
 chain_agree : (f g : ℕ → ℕ) (x : ℕ) (xs : List ℕ) → Linked f x xs → Linked g x xs → (p : ℕ) → member p (x ∷ xs) ≡ true → (p ≡ last_of x xs → f p ≡ g p) → f p ≡ g p
@@ -77,7 +74,7 @@ after_chain h x (y ∷ ys) d =
     let r = after_chain h y ys (once_rest x (y ∷ ys) d) in
     let other : (p : ℕ) → member p (y ∷ ys) ≡ true → after_in h (y ∷ ys) p ≡ after_in h (x ∷ y ∷ ys) p =
     λ p i. sym (after_other h x (y ∷ ys) p (once_apart x (y ∷ ys) d p i)) in
-    ((rw (eqb_yes x x refl), chain_ext (after_in h (y ∷ ys)) (after_in h (x ∷ y ∷ ys)) y ys other r.0), sym (other (last_of y ys) (last_member y ys)) ∙ r.1)
+    ((rw (eqb_yes x x refl), chain_ext (after_in h (y ∷ ys)) (after_in h (x ∷ y ∷ ys)) y ys other r.0), sym (other (last_of y ys) (member_last y ys)) ∙ r.1)
 
 after_ring : (xs : List ℕ) → Once xs → Linked (after_in (first xs) xs) (last xs) xs
 after_ring [] d = tt

@@ -18,6 +18,7 @@ use Rattle.model.proofs.Tests.{eqb_yes, eqb_no, inside_bounds, bit_small}
 use Rattle.model.proofs.Lists.{member_here, member_there}
 use Rattle.model.proofs.Places.{queue_length, waiting_is}
 use Rattle.ring.specs.Ring.{last_of, Linked}
+use Rattle.ring.proofs.Lists.{member_last}
 use Rattle.area.specs.Layout.{Part, span, home, has, Image}
 use Rattle.area.specs.Layout.Part.{kept, tail, next, locked, waiting}
 use Rattle.area.specs.State.{last, first_or, after_in, queues, next_in, laid, write}
@@ -26,7 +27,7 @@ use Rattle.area.specs.Sound.{Says, Sound}
 use Rattle.area.proofs.Stores.{word_ext, parts_said}
 use Rattle.area.proofs.Whole.{counts_in, image_shape, stored_write}
 use Rattle.area.proofs.Fields.{room_span}
-use Rattle.area.proofs.Rings.{ring_ext, last_member, Once, once_rest, once_apart, member_inside, queue_once, queue_none, laid_ring, rings_laid}
+use Rattle.area.proofs.Rings.{ring_ext, Once, once_rest, once_apart, member_inside, queue_once, queue_none, laid_ring, rings_laid}
 
 -- ---- the words of a placed state have room for it
 
@@ -45,7 +46,7 @@ first_small b (x ∷ xs) m = m x (member_here x xs)
 
 pub last_small : (b : ℕ) (xs : List ℕ) → ((x : ℕ) → member x xs ≡ true → x ≤ b) → last xs ≤ b
 last_small b [] m = omega arith
-last_small b (x ∷ xs) m = m (last_of x xs) (last_member x xs)
+last_small b (x ∷ xs) m = m (last_of x xs) (member_last x xs)
 
 module _ (n : Shape) (s : State model) (P : Placed n s) where
   pub members_small : (q : Queue) (x : ℕ) → member x (s.queues q) ≡ true → x ≤ n.processes
@@ -79,14 +80,14 @@ read_chain : (nx : ℕ → ℕ) (t k x : ℕ) (xs : List ℕ) → last_of x xs �
 read_chain nx t zero x xs e c d h = absurd (omega arith)
 read_chain nx t (suc k) x [] e c d h = rw (eqb_yes x t e)
 read_chain nx t (suc k) x (y ∷ ys) e c d h =
-    rw (eqb_no x t (λ q. once_apart x (y ∷ ys) d (last_of y ys) (last_member y ys) (q ∙ sym e)), c.0)
+    rw (eqb_no x t (λ q. once_apart x (y ∷ ys) d (last_of y ys) (member_last y ys) (q ∙ sym e)), c.0)
     (ap {B = List ℕ} (λ r. x ∷ r) (read_chain nx t k y ys e c.1 (once_rest x (y ∷ ys) d) (omega arith)))
 
 pub read_ring : (nx : ℕ → ℕ) (k : ℕ) (xs : List ℕ) → Linked nx (last xs) xs → Once xs → ((x : ℕ) → member x xs ≡ true → 1 ≤ x) → length xs ≤ k
     → cond (eqb (last xs) 0) [] (read_from nx (last xs) k (nx (last xs))) ≡ xs
 read_ring nx k [] c d z h = refl
 read_ring nx k (x ∷ xs) c d z h =
-    let l = z (last_of x xs) (last_member x xs) in
+    let l = z (last_of x xs) (member_last x xs) in
     rw (eqb_no (last_of x xs) 0 (omega arith), c.0) (read_chain nx (last_of x xs) k x xs refl c.1 d h)
 
 -- what is read is a chain

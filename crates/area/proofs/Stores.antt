@@ -6,7 +6,6 @@ use native.Mathlib.Omega.{arith}
 use mathlib.Core.Path.{◌≡◌, refl, sym, ap, ◌∙◌, fun_ext}
 use mathlib.Core.Bool.{true}
 use mathlib.Core.List.{List}
-use lib.Pow.{pow_pos}
 use lib.ListN.{length, get_or, set, length-set}
 use lib.Seq.{get_or-set_same, get_or-set_other, drop-set-lt}
 use Rattle.model.specs.declared.Shape.{Shape}
@@ -210,15 +209,8 @@ unit_fits (waiting p) = (omega arith, (1, refl))
 -- ---- a part at its place
 
 module _ {n : Shape} {ws : List ℕ} {t : Parts} (im : Image n ws t) (f : Part) {p : Place} (L : Lies n f p) where
-  -- its word is there
-  pub place_below : p.at < length ws
-  place_below = rw L.1 (within n ws t im (home f) L.0)
-
   pub place_power : (i : ℕ) × (p.unit ≡ 2 ^ i)
   place_power = rw L.2 (unit_fits f).1
-
-  pub place_unit : 0 < p.unit
-  place_unit = rw place_power.1 (pow_pos place_power.0)
 
   pub place_span : 0 < p.span
   place_span = omega (arith, im.spans f L.0, L.3)

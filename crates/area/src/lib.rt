@@ -125,7 +125,7 @@ fn with_part(word: u16, unit: u16, span: u32, value: u16) -> u16
 }
 
 // ---- reads and writes; that a field is 0 for nobody is the state's (`s.fields`), so a reader answers a number.
-// An area and its counts stay two parameters, here and above: a struct of both would spare a contract `Held`, ask in its place that counts and slice are the same behind its `&mut`, and shared reads would need another.
+// An area and its counts stay two parameters, here and above: a struct of both would spare a contract `Held`, ask in its place that counts and slice are the same behind its `&mut`, and shared reads would need another. Nor can a type say that a number is a process, a lock or a condition, or that a place is a queue's: the counts that say so stand in another parameter.
 
 // Who runs, 0 for nobody.
 pub fn running_of(area: &[u16]) -> u16
@@ -233,7 +233,7 @@ fn set_flag(records: &mut [u16], p: u16, unit: u16, value: u16)
     records[at] = with_part(flags, unit, layout::BIT, value);
 }
 
-// p's waiting bit, which goes with a move.
+// p's waiting bit, which goes with a move: a number, as the part of a word takes it (`alter`).
 pub fn set_waiting(records: &mut [u16], p: u16, waits: u16)
     requires image { (n : Shape) × (front : List ℕ) × (t : Parts) × (length front ≡ records_at n) × Image n (front ++ records.old) t × (inside n.processes p ≡ true) }
     requires is_bit { waits < 2 }

@@ -19,7 +19,6 @@ use Rattle.model.proofs.Lists.{member_here, member_there, filter_member, member_
 use Rattle.model.proofs.Loops.{due_moved}
 use Rattle.model.proofs.Many.{without, filter_all, filter_agree, filter_once, up_to_once}
 use Rattle.links.specs.Link as link
-use Rattle.links.specs.Link.{Stands}
 use Rattle.area.specs.Layout.{conditions_at, records_at, at}
 use Rattle.area.specs.Layout.Slot.{Tail}
 use Rattle.area.specs.State.{laid}
@@ -28,7 +27,7 @@ use Rattle.area.specs.Loose.{Loose}
 use Rattle.crowds.specs.Crowds.{swept, staying, Crowd, Woken, ringing}
 use Rattle.area.specs.Calls.{Does, woken}
 use Rattle.area.proofs.Rings.{member_inside, queue_none}
-use Rattle.area.proofs.Records.{records_stand, rings_said}
+use Rattle.area.proofs.Records.{rings_said}
 use Rattle.moves.proofs.Relinks.{lent}
 use Rattle.moves.proofs.Loose.{waits_in}
 use Rattle.outcomes.proofs.Outcomes.{accepts_ready}
@@ -193,11 +192,8 @@ none_pass t u (x ∷ xs) a e = go (u x) (sym (a x (member_here x xs))) e (none_p
     go true k z ih = absurd (true≢false z)
     go false k z ih = rw k (ih z)
 
--- a process stands in the records as they are lent, and rings there as it does in the state
+-- a process rings in the records as they are lent as it does in the state
 module _ {n : Shape} {ws : List ℕ} {s : State model} (H : Holds n ws s) {a : ℕ} (p : ℕ) (at_records : a ≡ records_at n) (i : inside n.processes p ≡ true) where
-  pub held_stands : Stands (mid_of a (length ws - a) ws) p
-  held_stands = subst (λ (r : List ℕ). Stands r p) (sym (lent n ws at_records)) (records_stand n ws (laid n s) H.image p i)
-
   pub held_rings : (time : ℕ) → link.rings (mid_of a (length ws - a) ws) time p ≡ rings s.fields time p
   held_rings time = ap (λ (r : List ℕ). link.rings r time p) (lent n ws at_records) ∙ rings_said n ws (laid n s) H.image p i time
 

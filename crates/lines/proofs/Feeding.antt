@@ -1,15 +1,14 @@
 -- What bytes without a newline, a newline and the end of the input make of the progress so far, over all that was fed before. Assumes nothing.
 use Prim.Native.Nat.{ℕ, zero, suc, ◌+◌, ◌-◌, ◌≤◌, ◌<◌, min}
-use native.Mathlib.Decide.{dec_lt}
 use native.Mathlib.Omega.{arith}
 use mathlib.Core.Path.{◌≡◌, refl, sym, ap, ◌∙◌, subst}
 use mathlib.Core.Logic.{◌≢◌}
 use Rattle.std.specs.Prelude.{Some}
 use mathlib.Core.List.{List, [], ◌∷◌, ◌++◌, append_assoc, append-nil}
 use lib.ListN.{length, get_or, take, drop}
-use lib.Seq.{length-take-le, take_all, take-nil, take-suc, take-append-le, take-append-add}
+use lib.Seq.{length-take-le, take-nil, take-suc, take-append-le, take-append-add}
 use borrow.Rule.Slice.PartMut.{post_of, put_mid}
-use Rattle.std.proofs.lemmas.List.{take-append-drop}
+use Rattle.std.proofs.lemmas.List.{take-append-drop, take_min}
 use Rattle.model.specs.Run.Run.{none, then}
 use Rattle.model.proofs.Runs.{run_append}
 use Rattle.script.specs.Line.{Meaning, meaning}
@@ -18,13 +17,6 @@ use Rattle.lines.specs.Lines.{ended, rest, last, joined, Answered, Puts, Progres
 use Rattle.lines.proofs.Cuts.{Plain, ended_plain, rest_plain, ended_newline, rest_newline, joined_append, kept_more, kept_meaning, kept_some}
 
 -- ---- parts of a list
-
--- what is not there is not taken
-take_min : (n : ℕ) (xs : List ℕ) → take (min n (length xs)) xs ≡ take n xs
-take_min n xs = elim (dec_lt (length xs) n) [
-  | yes h ↦ let e : min n (length xs) ≡ length xs = omega arith in ap (λ (m : ℕ). take m xs) e ∙ take_all (length xs) xs (omega arith) ∙ sym (take_all n xs (omega arith))
-  | no h ↦ let e : min n (length xs) ≡ n = omega arith in ap (λ (m : ℕ). take m xs) e
-]
 
 -- what was put at the front of the part stands behind what stood before it
 pub part_front : (a k n : ℕ) (xs ys : List ℕ) → a ≤ length xs → n ≤ length ys → take (a + n) (put_mid a k xs ys) ≡ take a xs ++ take n ys

@@ -14,7 +14,8 @@ use Rattle.model.proofs.Tests.{eqb_no, bit_small, inside_bounds}
 use Rattle.model.proofs.Lists.{all_map, member_here, member_count, absent_count, member_bit, at_most, members_all}
 use Rattle.links.specs.Link.{slot, link, next, priority}
 use Rattle.ring.specs.Ring.{last_of, Linked}
-use Rattle.area.proofs.Rings.{Once, once_apart, last_member}
+use Rattle.ring.proofs.Lists.{member_last}
+use Rattle.area.proofs.Rings.{Once, once_apart}
 use Rattle.members.specs.Walk.{is_fresh, fits_in, walked, ringed}
 use Rattle.members.proofs.Steps.{walk_out, walk_stale, walk_unfit, walk_last, walk_on, ring_empty, ring_walk}
 use Rattle.members.proofs.Tests.{fresh_is, is_fresh_lem, Fits, fitting_is, is_fitting}
@@ -149,14 +150,14 @@ module _ (rs : List ℕ) (P k o t : ℕ) where
   walk_full (y ∷ rest) n p b js l e m h f c s =
       let once : Once (p ∷ y ∷ rest) = λ x. let a = c x in omega arith in
       walk_on rs P k o t n (n - 1) p b js (omega arith) (is_fresh_lem P o p js (record { within = m.0.within; free = m.0.free; new = new_one p (y ∷ rest) js c }))
-      (is_fitting k b _ _ _ h m.0.fits) (λ d. once_apart p (y ∷ rest) once (last_of y rest) (last_member y rest) (d ∙ sym e))
+      (is_fitting k b _ _ _ h m.0.fits) (λ d. once_apart p (y ∷ rest) once (last_of y rest) (member_last y rest) (d ∙ sym e))
       ∙ rw l.0 (walk_full rest (n - 1) y (priority rs p) (p ∷ js) l.1 e m.1 f.0.0 f.1 (λ x. let a = c x in omega arith) (omega arith))
 
   pub ring_full : Words rs → (ys js : List ℕ) → Ringed rs P k o t ys → ((x : ℕ) → count x ys + count x js ≤ bit (inside P x)) → ringed rs P k o t js ≡ Some (onto ys js)
   unfolding onto priority
   ring_full small [] js R c = ring_empty rs P k o t js (sym R.ends)
   ring_full small (y ∷ ys) js R c =
-      let in_Tail = members_all (Member rs P k o) (y ∷ ys) R.members (last_of y ys) (last_member y ys) in
+      let in_Tail = members_all (Member rs P k o) (y ∷ ys) R.members (last_of y ys) (member_last y ys) in
       let one = inside_bounds P (last_of y ys) in_Tail.within in
       let end = R.ends in
       let few = at_most P (onto (y ∷ ys) js) (λ x. rw (count_onto x (y ∷ ys) js) (c x)) in

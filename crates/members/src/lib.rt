@@ -109,6 +109,7 @@ impl Roll<'_> {
             return Some(count);
         }
         let processes = usize::from(self.processes);
+        // by hand, not `links::link_at`: that takes a u16, and the walk goes by usize
         let last = (tail - 1) * links::RECORD;
         let mut p = usize::from(links::next_field(self.records[last]));
         let mut before = layout::HIGHEST * links::PRIORITY;

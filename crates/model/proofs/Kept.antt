@@ -20,18 +20,14 @@ use Rattle.model.specs.Rules.Effect.{refuse, accept}
 use Rattle.model.specs.Machine.{State, model, moves, dispatch, retry, arrivals, ahead, finish, obey, step, after, start}
 use Rattle.model.specs.Valid.{room, Placed, Valid}
 use Rattle.model.proofs.Tests.{holds, fails, so, not_so, stops, EqCase, eqb_case, eqb_yes, LeCase, leb_case, same_case, put_here, or_split, not_false, not_below, bit_small, inside_bounds, bounds_inside, outside_inside}
-use Rattle.model.proofs.Lists.{member_here, member_there, first_there, first_member, first_only_member, filter_member, up_to_member, filter_length, all_append}
+use Rattle.model.proofs.Lists.{first_there, first_member, first_only_member, filter_member, up_to_member, filter_length, all_append}
 use Rattle.model.proofs.Fields.{armed_cleared, calm_clears, dispatch_priorities, dispatch_running}
 use Rattle.model.proofs.Accepted.{Accepted, accepted, Marked, when_by, choose_by, nakedly_by, enters_by, of_refuse, decide_marks}
 use Rattle.model.proofs.Simulation.{Bounded, Ranked, decide_keeps}
-use Rattle.model.proofs.Places.{sent, relocate, relocate_append, arrivals_few, arrivals_append, ahead_few, Stands, Movers, stands_moves, member_is, stands_at, queue_length, falling_all, falling_moves, stands_start}
+use Rattle.model.proofs.Places.{sent, relocate, relocate_append, arrivals_few, arrivals_append, ahead_few, Stands, Movers, ready_movers, stands_moves, member_is, stands_at, queue_length, falling_all, falling_moves, stands_start}
 use Rattle.model.proofs.Good.{Fits, Good, good_put, good_zero, good_calm, good_move, good_ready, each_most, each_none, each_low, of_valid, to_valid}
 
 -- ---- moves of a call
-
-movers_ready : (P : ℕ) (xs : List ℕ) → ((p : ℕ) → member p xs ≡ true → inside P p ≡ true) → Movers P (to_ready xs)
-movers_ready P [] h = tt
-movers_ready P (x ∷ xs) h = (h x (member_here x xs), movers_ready P xs (λ p e. h p (member_there p x xs e)))
 
 first_only_length : (xs : List ℕ) → length (first_only xs) ≤ length xs
 first_only_length [] = omega arith
@@ -43,7 +39,7 @@ up_to_length (suc k) = let e = up_to_length k in rw (length-append (up_to k) (su
 
 -- ---- Requeue's queues
 
-low_exists : (n : Shape) (k : ℕ) → k ≤ n.parks → exists n (ready_or_park k) ≡ true
+pub low_exists : (n : Shape) (k : ℕ) → k ≤ n.parks → exists n (ready_or_park k) ≡ true
 low_exists n k h = go (eqb_case k 0)
   where
     go : EqCase k 0 → exists n (ready_or_park k) ≡ true
@@ -113,7 +109,7 @@ module _ (n : Shape) (s : Fields) (qs : Queue → List ℕ) (v : Valid n record 
       → Fine n v.placed.place (calm ps g) (to_ready ps) k
   waking g k ps h i l = record {
     good = good_ready n (calm ps g) ps v.placed.place (good_calm n ps g v.placed.place h) (λ p e. calm_clears armed_cleared p ps g e);
-    movers = movers_ready n.processes ps i;
+    movers = ready_movers n.processes ps i;
     few = λ rs. let a = arrivals_few rs ps in omega arith;
   }
 
@@ -134,7 +130,7 @@ module _ (n : Shape) (s : Fields) (qs : Queue → List ℕ) (v : Valid n record 
   leaving l = record {
     good = good_ready n (put (holder l) 0 s) (first_only (qs (lock l))) v.placed.place (good_zero n s v.placed.place (holder l) good (λ z. absurd (false≢true z)))
         (λ p e. (fit p (lock l) (first_only_member p (qs (lock l)) e)).1);
-    movers = movers_ready n.processes (first_only (qs (lock l))) (in_first (lock l));
+    movers = ready_movers n.processes (first_only (qs (lock l))) (in_first (lock l));
     few = λ rs. let a = arrivals_few rs (first_only (qs (lock l))) in let b = first_long (lock l) in omega arith;
   }
 

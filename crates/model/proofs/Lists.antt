@@ -3,25 +3,18 @@ use Prim.Native.Nat.{ℕ, zero, suc, ◌+◌, ◌≤◌, ◌<◌}
 use native.Mathlib.Decide.{ℕ_discrete}
 use native.Mathlib.Omega.{arith}
 use mathlib.Core.Path.{◌≡◌, refl, ap, sym, ◌∙◌, subst}
-use mathlib.Core.Logic.Dec
 use mathlib.Core.Logic.{◌≢◌}
 use mathlib.Core.Bool.{Bool, true, false, ◌||◌, cond, or-false, or-true, or_assoc, false≢true}
-use mathlib.Core.List.{List, [], ◌∷◌, ◌++◌}
+use mathlib.Core.List.{List, [], ◌∷◌, ◌++◌, List-discrete}
 use lib.Dec.{eqb, leb}
-use lib.ListN.{length, get_or, drop}
+use lib.ListN.{length}
 use Rattle.model.specs.Queue.{bit, inside, up_to, member, count, first, first_only, filter, remove, insert, All, Falling}
 use Rattle.model.proofs.Tests.{holds, fails, EqCase, eqb_case, eqb_yes, eqb_no, LeCase, leb_case, leb_yes, leb_no, or_split, bit_split, bit_small, inside_bounds, bounds_inside}
 
 -- ---- whether two are the same
 
 pub lists? : (xs ys : List ℕ) → Dec (xs ≡ ys)
-lists? [] [] = yes refl
-lists? [] (y ∷ ys) = no (λ e. let l : ◌≡◌ {A = ℕ} 0 (length (y ∷ ys)) = ap length e in omega arith)
-lists? (x ∷ xs) [] = no (λ e. let l : length (x ∷ xs) ≡ 0 = ap length e in omega arith)
-lists? (x ∷ xs) (y ∷ ys) = elim (Dec.and (ℕ_discrete x y) (lists? xs ys)) [
-  | yes e ↦ yes (λ i. e.0 i ∷ e.1 i)
-  | no n ↦ no (λ e. n (ap (λ (l : List ℕ). get_or l 0 0) e, ap (λ (l : List ℕ). drop 1 l) e))
-]
+lists? = List-discrete ℕ_discrete
 
 -- ---- counts
 

@@ -17,7 +17,7 @@ use Rattle.model.specs.Valid.{room, Placed}
 use Rattle.model.proofs.Tests.{holds, fails, EqCase, eqb_case, PutCase, put_case, eqb_comm, inside_bounds, denied}
 use Rattle.model.proofs.Lists.{count_insert, count_append, member_count, absent_count, member_bit, member_here, member_there, remove_absent, falling_insert, up_to_member}
 use Rattle.model.proofs.Fields.{calm_priorities}
-use Rattle.model.proofs.Places.{sent, relocate, Movers, stands_moves, falling_all}
+use Rattle.model.proofs.Places.{sent, relocate, ready_movers, stands_moves, falling_all}
 use Rattle.model.proofs.Loops.{move_to, move_off}
 
 -- ---- those who stay
@@ -137,10 +137,6 @@ relocate_real n (x ∷ ps) place p h = relocate_real n ps (sent place (x, ready)
     go : (b : Bool) → exists n (cond b ready (place p)) ≡ true
     go true = refl
     go false = h
-
-pub ready_movers : (P : ℕ) (xs : List ℕ) → ((p : ℕ) → member p xs ≡ true → inside P p ≡ true) → Movers P (to_ready xs)
-ready_movers P [] h = tt
-ready_movers P (x ∷ xs) h = (h x (member_here x xs), ready_movers P xs (λ p m. h p (member_there p x xs m)))
 
 pub placed_woken : (n : Shape) (s : State model) (ps : List ℕ) → Placed n s → ((p : ℕ) → member p ps ≡ true → inside n.processes p ≡ true)
     → Placed n (record { fields = calm ps s.fields; queues = moves model (priorities (calm ps s.fields)) s.queues (to_ready ps) })

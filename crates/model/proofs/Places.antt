@@ -15,7 +15,7 @@ use Rattle.model.specs.Field.Field.{abortable}
 use Rattle.model.specs.Rules.{ready_or_park, abortably}
 use Rattle.model.specs.Machine.{model, moves, arrivals, ahead, waiting}
 use Rattle.model.proofs.Tests.{holds, fails, so, EqCase, eqb_case, eqb_yes, same_case, same_yes, and_split, or_split, bit_small, inside_bounds, bounds_inside}
-use Rattle.model.proofs.Lists.{count_remove_same, count_remove_other, count_insert, member_bit, at_most, inside_suc, SameOff, falling_remove, falling_insert}
+use Rattle.model.proofs.Lists.{member_here, member_there, count_remove_same, count_remove_other, count_insert, member_bit, at_most, inside_suc, SameOff, falling_remove, falling_insert}
 use Rattle.model.proofs.Simulation.{Agree, alike, lead}
 
 -- ---- where processes are sent
@@ -111,6 +111,11 @@ stands_move P pr m qs place h e p q = go (eqb_case m.0 p)
     go : EqCase m.0 p → count p (move pr qs m.0 m.1 q) ≡ bit (inside P p && same (sent place m p) q)
     go (holds d z) = rw (z, ← d, e) (count_move_same pr qs m.0 m.1 q)
     go (fails d z) = rw z (count_move_other pr qs p m.0 m.1 q d z ∙ h p q)
+
+-- those of a list go to ready
+pub ready_movers : (P : ℕ) (xs : List ℕ) → ((p : ℕ) → member p xs ≡ true → inside P p ≡ true) → Movers P (to_ready xs)
+ready_movers P [] h = tt
+ready_movers P (x ∷ xs) h = (h x (member_here x xs), ready_movers P xs (λ p e. h p (member_there p x xs e)))
 
 pub stands_moves : (P : ℕ) (pr : ℕ → ℕ) (ms : List Note) (qs : Queue → List ℕ) (place : ℕ → Queue) → Stands P qs place → Movers P ms → Stands P (moves model pr qs ms) (relocate place ms)
 stands_moves P pr [] qs place h a = h

@@ -3,12 +3,15 @@
 use Prim.Native.Nat.{ℕ, suc, ◌≤◌, ◌<◌}
 use native.Mathlib.Decide.{ℕ_discrete}
 use native.Mathlib.Omega.{arith}
-use mathlib.Core.Path.{◌≡◌, refl, sym, ◌∙◌, subst}
+use mathlib.Core.Path.{◌≡◌, refl, sym, ◌∙◌}
 use mathlib.Core.Logic.{◌≢◌}
-use mathlib.Core.Bool.{Bool, true, false, not, ◌&&◌, ◌||◌, true≢false, false≢true}
-use lib.Dec.{eqb, leb, ltb, T, eqb→eq, eqb_refl, leb→le, le→leb, nleb→lt}
+use mathlib.Core.Bool.{Bool, true, false, true≢false}
+use lib.Dec.{eqb, leb, ltb}
+use Rattle.std.proofs.lemmas.Bool.{eqb-true, eqb-false, leb-true, leb-false}
 use Rattle.model.specs.Queue.{Queue, Queue-discrete, decided, same, bit, inside, outside}
 use Rattle.model.specs.Field.{Field, Fields, Field-discrete, put}
+-- Laws of the library, by the names that go with the cases below.
+pub use Rattle.std.proofs.lemmas.Bool.{eq-eqb as eqb_yes, ne_eqb as eqb_no, le-leb as leb_yes, lt-leb as leb_no, ltb-false as not_below, or_parts as or_split, and_parts as and_split, not-true as not_true, not-false as not_false, false_from_ne_true as denied, true_from_ne_false as granted}
 
 -- ---- a test that holds with P or fails with Q
 
@@ -37,13 +40,6 @@ module _ {P Q : Type 0} {b : Bool} where
 
 -- ---- numbers
 
-true_T : (b : Bool) → b ≡ true → T b
-true_T b e = subst T (sym e) tt
-
-T_true : (b : Bool) → T b → b ≡ true
-T_true true t = refl
-T_true false t = absurd t
-
 abbrev pub EqCase : ℕ → ℕ → Type 0
 EqCase m n = Case (m ≡ n) (m ≢ n) (eqb m n)
 
@@ -51,14 +47,8 @@ pub eqb_case : (m n : ℕ) → EqCase m n
 eqb_case m n = go (eqb m n) refl
   where
     go : (b : Bool) → eqb m n ≡ b → EqCase m n
-    go true e = holds (eqb→eq m n (true_T (eqb m n) e)) e
-    go false e = fails (λ d. true≢false (sym (T_true (eqb m n) (subst (λ (k : ℕ). T (eqb m k)) d (eqb_refl m))) ∙ e)) e
-
-pub eqb_yes : (m n : ℕ) → m ≡ n → eqb m n ≡ true
-eqb_yes m n e = passes (eqb_case m n) (λ h. h e)
-
-pub eqb_no : (m n : ℕ) → m ≢ n → eqb m n ≡ false
-eqb_no m n h = stops (eqb_case m n) h
+    go true e = holds (eqb-true m n e) e
+    go false e = fails (eqb-false m n e) e
 
 pub eqb_comm : (m n : ℕ) → eqb m n ≡ eqb n m
 eqb_comm m n = go (eqb_case m n)
@@ -74,18 +64,8 @@ pub leb_case : (m n : ℕ) → LeCase m n
 leb_case m n = go (leb m n) refl
   where
     go : (b : Bool) → leb m n ≡ b → LeCase m n
-    go true e = holds (leb→le m n (true_T (leb m n) e)) e
-    go false e = fails (nleb→lt m n (subst (λ (b : Bool). T (not b)) (sym e) tt)) e
-
-pub leb_yes : (m n : ℕ) → m ≤ n → leb m n ≡ true
-leb_yes m n h = T_true (leb m n) (le→leb m n h)
-
-pub leb_no : (m n : ℕ) → n < m → leb m n ≡ false
-leb_no m n h = stops (leb_case m n) (λ k. omega arith)
-
--- a failed ltb, as a bound
-pub not_below : (m n : ℕ) → ltb m n ≡ false → n ≤ m
-not_below m n e = let k = not_so (leb_case (suc m) n) e in omega arith
+    go true e = holds (leb-true m n e) e
+    go false e = fails (leb-false m n e) e
 
 -- ---- a derived decision: of two queues, of two fields
 
@@ -123,31 +103,7 @@ settle d f g = elim d [
   | no n ↦ g (λ s. n (f s))
 ]
 
--- ---- splits
-
-pub or_split : (a b : Bool) → a || b ≡ false → (a ≡ false) × (b ≡ false)
-or_split true b e = absurd (true≢false e)
-or_split false b e = (refl, e)
-
-pub and_split : (a b : Bool) → a && b ≡ true → (a ≡ true) × (b ≡ true)
-and_split true b e = (refl, e)
-and_split false b e = absurd (false≢true e)
-
-pub not_true : (b : Bool) → not b ≡ true → b ≡ false
-not_true true e = absurd (false≢true e)
-not_true false e = refl
-
-pub not_false : (b : Bool) → not b ≡ false → b ≡ true
-not_false true e = refl
-not_false false e = absurd (true≢false e)
-
-pub denied : (b : Bool) → (b ≡ true → ⊥) → b ≡ false
-denied true h = absurd (h refl)
-denied false h = refl
-
-pub granted : (b : Bool) → (b ≡ false → ⊥) → b ≡ true
-granted true h = refl
-granted false h = absurd (h refl)
+-- ---- bits
 
 pub bit_split : (b : Bool) → 1 ≤ bit b → b ≡ true
 bit_split true h = refl

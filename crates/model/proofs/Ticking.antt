@@ -20,10 +20,9 @@ use Rattle.model.specs.Timers.{ticks, distance, ticks_to, left, Entry, with_left
 use Rattle.model.proofs.Tests.{holds, fails, so, EqCase, eqb_case, put_here, denied, inside_bounds}
 use Rattle.model.proofs.Lists.{member_here, member_there, nobody, filter_member, member_filter, up_to_member, member_up_to, all_append}
 use Rattle.model.proofs.Fields.{calm_away, armed_cleared, timer_cleared, calm_other, calm_clears, dispatch_away}
-use Rattle.model.proofs.Places.{sent, relocate, Stands, stands_moves, member_is, stands_at, at_place}
+use Rattle.model.proofs.Places.{sent, relocate, Stands, ready_movers, stands_moves, member_is, stands_at, at_place}
 use Rattle.model.proofs.Good.{each_most}
 use Rattle.model.proofs.Kept.{step_valid}
-use Rattle.model.proofs.Many.{ready_movers}
 use Rattle.model.proofs.Rules.{due_rung, rung_due}
 
 -- ---- ticks from the clock to a time

@@ -14,7 +14,7 @@ use model::Shape;
 pub mod answers;
 pub mod codes;
 
-// Who runs now, and whether its failed bit was set.
+// Who runs now, 0 for nobody, and its failed bit as it was: numbers, as the state has them (`first`, `retry`).
 #[derive(Clone, Copy)]
 struct Dispatched {
     running: u16,

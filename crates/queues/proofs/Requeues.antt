@@ -10,12 +10,13 @@ use Rattle.model.specs.declared.Shape.{Shape}
 use Rattle.model.specs.declared.Process.{Process}
 use Rattle.model.specs.declared.Answer.{Answer}
 use Rattle.model.specs.declared.Call.TheVariants.{Requeue}
-use Rattle.model.specs.Queue.{outside, inside, exists, bit, member, is_condition}
+use Rattle.model.specs.Queue.{outside, inside, bit, member, is_condition}
 use Rattle.model.specs.Queue.Queue.{ready, park}
 use Rattle.model.specs.Field.{priorities}
 use Rattle.model.specs.Rules.{ready_or_park, when, decide}
 use Rattle.model.specs.Machine.{State, model, moves, arrivals, finish, refusal}
-use Rattle.model.proofs.Tests.{holds, fails, EqCase, eqb_case, eqb_no, leb_yes, leb_no, bounds_inside}
+use Rattle.model.proofs.Tests.{holds, fails, EqCase, eqb_case, eqb_no, leb_yes, leb_no}
+use Rattle.model.proofs.Kept.{low_exists}
 use Rattle.model.proofs.Places.{ahead_park}
 use Rattle.model.proofs.Loops.{elsewhere}
 use Rattle.area.specs.Layout.{at}
@@ -31,13 +32,6 @@ use Rattle.outcomes.proofs.Outcomes.{when_yes, when_no, Tested, missing_tested, 
 park_there : (k : ℕ) → k ≢ 0 → ready_or_park k ≡ park k
 park_there k h = rw (eqb_no k 0 h)
 
-pub given : (n : Shape) (k : ℕ) → k ≤ n.parks → exists n (ready_or_park k) ≡ true
-given n k h = go (eqb_case k 0)
-  where
-    go : EqCase k 0 → exists n (ready_or_park k) ≡ true
-    go (holds e z) = rw z
-    go (fails e z) = rw z (bounds_inside n.parks k (omega arith) h)
-
 pub no_condition : (k : ℕ) → 0 ≡ bit (is_condition (ready_or_park k))
 no_condition k = go (eqb_case k 0)
   where
@@ -47,7 +41,7 @@ no_condition k = go (eqb_case k 0)
 
 -- a process on its way from one of them to another, where it may stand
 abbrev pub between : {n : Shape} {ws : List ℕ} {s : State model} {from to p : ℕ} (a b : ℕ) → Holds n ws s → a ≤ n.parks → b ≤ n.parks → from ≡ at n (Tail (ready_or_park a)) → to ≡ at n (Tail (ready_or_park b)) → inside n.processes p ≡ true → Moves n ws from to p 0
-between {n} a b H x y here there i = trying H (ready_or_park a) (ready_or_park b) (given n a x) (given n b y) here there i (no_condition b)
+between {n} a b H x y here there i = trying H (ready_or_park a) (ready_or_park b) (low_exists n a x) (low_exists n b y) here there i (no_condition b)
 
 -- who stands in a park does not stand in ready
 pub not_ready : {n : Shape} {ws : List ℕ} {s : State model} → Holds n ws s → (a p : ℕ) → member p (s.queues (ready_or_park a)) ≡ true → a ≢ 0 → member p (s.queues ready) ≡ false

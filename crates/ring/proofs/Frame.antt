@@ -1,6 +1,6 @@
 -- What leaving and joining keep. Each is one or two changes of a next field, and such a change moves no other bit of any word; so every priority, every failed bit, every flags and timer word, and every ring without these processes stay. Assumes nothing.
 use mathlib.Core.Path.{◌≡◌, sym, ap, ◌∙◌, subst}
-use mathlib.Core.Logic.{◌≢◌}
+use mathlib.Core.Logic.{◌≢◌, Ne-symm}
 use mathlib.Core.Bool.{true, false}
 use mathlib.Core.List.{List, ◌∷◌}
 use Prim.Native.Nat.{ℕ, ◌/◌, ◌%◌, ◌≤◌, ◌<◌}
@@ -11,7 +11,7 @@ use Rattle.model.proofs.Lists.{member_here, member_there, all_members, members_a
 use Rattle.links.specs.Link.{Stands, slot, link, next, priority, point}
 use Rattle.ring.specs.Ring.{Ring, last_of, ahead_for, leader, Kept, Left, Joined}
 use Rattle.links.proofs.Links.{relink_priority, relink_low, next_small, point_length, point_word, point_kept, slots_apart}
-use Rattle.ring.proofs.Lists.{flip, differ, member_other}
+use Rattle.ring.proofs.Lists.{differ, member_other}
 use Rattle.ring.proofs.Rings.{ring_stand, ring_member, follows_all, ring_same}
 use Rattle.ring.proofs.Moves.{leader_some}
 
@@ -41,7 +41,7 @@ kept_point r q n zs b h k = record {
   high = point_kept (λ w. w / 8192) r q n (relink_priority (link r q) n h);
   low = point_kept (λ w. w % 8) r q n (relink_low (link r q) n h);
   words = λ i e. point_word r q n i (λ g. e (omega arith));
-  links = λ p l m. point_word r q n (slot p) (slots_apart p q l b (flip (differ (λ (y : ℕ). member y zs) q p k m)));
+  links = λ p l m. point_word r q n (slot p) (slots_apart p q l b (Ne-symm (differ (λ (y : ℕ). member y zs) q p k m)));
 }
 
 -- ---- p has left
@@ -83,4 +83,4 @@ pub joined_ring : {r r' : List ℕ} {tail p t : ℕ} (xs : List ℕ) → Stands 
 joined_ring {p} xs s R J u us f apart S = kept_ring (joined_kept xs s R J) u us both S
   where
     both : (x : ℕ) → member x us ≡ true → member x (p ∷ xs) ≡ false
-    both x m = member_other x p xs (flip (differ (λ (y : ℕ). member y us) x p m f)) ∙ apart x m
+    both x m = member_other x p xs (Ne-symm (differ (λ (y : ℕ). member y us) x p m f)) ∙ apart x m

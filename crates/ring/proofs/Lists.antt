@@ -1,6 +1,6 @@
 -- Lists of processes: distinct ones, the last and all but the last, what holds of each. Model has the laws of member and count. All by induction on the list. Assumes nothing.
 use mathlib.Core.Path.{◌≡◌, refl, sym, ap, ◌∙◌, subst}
-use mathlib.Core.Logic.{◌≢◌}
+use mathlib.Core.Logic.{◌≢◌, Ne-symm}
 use mathlib.Core.Bool.{Bool, true, false, true≢false}
 use mathlib.Core.List.{List, [], ◌∷◌, ◌++◌}
 use Prim.Native.Nat.{ℕ, ◌≤◌}
@@ -25,9 +25,6 @@ Distinct (x ∷ xs) = Fresh x xs × Distinct xs
 abbrev pub init : ℕ → List ℕ → List ℕ
 init a [] = []
 init a (x ∷ xs) = a ∷ init x xs
-
-pub flip : {a b : ℕ} → a ≢ b → b ≢ a
-flip h e = h (sym e)
 
 -- whom a test tells apart
 pub differ : (t : ℕ → Bool) (x y : ℕ) → t x ≡ true → t y ≡ false → x ≢ y
@@ -93,7 +90,7 @@ pub mid_fresh : (xs : List ℕ) (q : ℕ) (ys : List ℕ) → Distinct (xs ++ q 
 mid_fresh [] q ys d = (tt, d.0)
 mid_fresh (x ∷ xs) q ys d =
     let ih = mid_fresh xs q ys d.1 in
-    ((flip (all_right (λ y. y ≢ x) xs (q ∷ ys) d.0).0, ih.0), ih.1)
+    ((Ne-symm (all_right (λ y. y ≢ x) xs (q ∷ ys) d.0).0, ih.0), ih.1)
 
 pub distinct_drop : (xs : List ℕ) (y : ℕ) (ys : List ℕ) → Distinct (xs ++ y ∷ ys) → Distinct (xs ++ ys)
 distinct_drop [] y ys d = d.1
@@ -101,7 +98,7 @@ distinct_drop (x ∷ xs) y ys d = (all_drop (λ z. z ≢ x) xs y ys d.0, distinc
 
 pub distinct_insert : (xs : List ℕ) (y : ℕ) (ys : List ℕ) → Fresh y (xs ++ ys) → Distinct (xs ++ ys) → Distinct (xs ++ y ∷ ys)
 distinct_insert [] y ys f d = (f, d)
-distinct_insert (x ∷ xs) y ys f d = (all_insert (λ z. z ≢ x) xs y ys (flip f.0) d.0, distinct_insert xs y ys f.1 d.1)
+distinct_insert (x ∷ xs) y ys f d = (all_insert (λ z. z ≢ x) xs y ys (Ne-symm f.0) d.0, distinct_insert xs y ys f.1 d.1)
 
 pub distinct_right : (xs ys : List ℕ) → Distinct (xs ++ ys) → Distinct ys
 distinct_right [] ys d = d
@@ -112,7 +109,7 @@ pub rotated : (x : ℕ) (xs : List ℕ) → Distinct (x ∷ xs) → Distinct (la
 rotated x [] d = d
 rotated x (y ∷ ys) d =
     let ih = rotated y ys d.1 in
-    ((flip (all_last (λ z. z ≢ x) y ys d.0.0 d.0.1), ih.0), (all_init (λ z. z ≢ x) y ys d.0.0 d.0.1, ih.1))
+    ((Ne-symm (all_last (λ z. z ≢ x) y ys d.0.0 d.0.1), ih.0), (all_init (λ z. z ≢ x) y ys d.0.0 d.0.1, ih.1))
 
 pub last_of_append : (a : ℕ) (xs : List ℕ) (y : ℕ) (ys : List ℕ) → last_of a (xs ++ y ∷ ys) ≡ last_of y ys
 last_of_append a [] y ys = refl

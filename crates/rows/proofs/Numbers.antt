@@ -11,6 +11,7 @@ use lib.Dec.{ltb}
 use lib.ListN.{length, take, drop, set, length-append, length-replicate, replicate-append-replicate}
 use lib.Seq.{take-take, drop-drop}
 use borrow.Author.Tests.{lt-ltb, le-ltb}
+use Rattle.std.proofs.lemmas.List.{take-replicate}
 use Rattle.rows.specs.declared.Row.{Row}
 use Rattle.rows.specs.Printed.{spaces, aligned, name, label, printed, Written}
 use Rattle.rows.proofs.Written.{written_none, written_one, written_same, written_long, written_before, written_then, written_over, written_there}
@@ -19,11 +20,6 @@ use Rattle.rows.proofs.Written.{written_none, written_one, written_same, written
 
 pub spaces_length : (k : ℕ) → length (spaces k) ≡ k
 spaces_length k = length-replicate k 32
-
-take_spaces : (j k : ℕ) → j ≤ k → take j (spaces k) ≡ spaces j
-take_spaces zero k h = refl
-take_spaces (suc j) zero h = absurd (omega arith)
-take_spaces (suc j) (suc k) h = ap (λ (l : List ℕ). 32 ∷ l) (take_spaces j k (omega arith))
 
 -- a number takes its columns
 pub aligned_length : (k m : ℕ) → length (aligned k m) ≡ k
@@ -88,7 +84,7 @@ module _ {k m at i rest : ℕ} {old new : List ℕ} (p : Partly k m at i rest ol
       room = rw (spaces_length (i - 1 - at)) (let r = p.written.room in omega arith)
 
       less : take (i - 1 - at) (take k (drop at old)) ≡ spaces (i - 1 - at)
-      less = rw blank (take_spaces (i - 1 - at) k (let e = p.ends in omega arith))
+      less = rw blank (take-replicate (i - 1 - at) k 32 (let e = p.ends in omega arith))
 
       there : take (length (spaces (i - 1 - at))) (drop at old) ≡ spaces (i - 1 - at)
       there = rw (spaces_length (i - 1 - at)) (sym (take-take (i - 1 - at) k (drop at old) (let e = p.ends in omega arith)) ∙ less)

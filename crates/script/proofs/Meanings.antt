@@ -1,10 +1,10 @@
 -- Laws on the meaning of a whole line, by what was found behind its first word. Assumes nothing.
-use Prim.Native.Nat.{ℕ, ◌+◌, ◌≤◌, ◌<◌}
+use Prim.Native.Nat.{ℕ, ◌+◌, ◌≤◌}
 use mathlib.Core.Path.{◌≡◌, ap, ◌∙◌, refl}
 use mathlib.Core.Bool.{Bool, true, false, cond}
 use mathlib.Core.List.{List, ◌∷◌}
 use native.Mathlib.Omega.{arith}
-use borrow.Author.Tests.{le-leb, lt-leb}
+use borrow.Author.Tests.{le-leb}
 use lib.ListN.{length, take, drop}
 use Rattle.std.specs.Prelude.{Some, None}
 use Rattle.words.specs.Words.{fields, within}
@@ -15,9 +15,6 @@ use Rattle.script.specs.Line.{name_of, said, worded, spoken, meaning}
 use Rattle.script.specs.Line.Meaning.{none}
 
 -- ---- a whole line
-
-pub meaning_long : (l : List ℕ) → 8192 < length l → meaning l ≡ none
-meaning_long l h = rw (lt-leb (length l) 8192 h)
 
 -- e is where the first word ends
 module _ (l : List ℕ) (e : ℕ) (h : length l ≤ 8192) (q : e ≡ 0 + length (word (drop 0 l))) where

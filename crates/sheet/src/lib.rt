@@ -39,7 +39,7 @@ impl<'a> Model for Yard<'a> {
 impl<'a> Yard<'a> {
     // ---- what a row says; a queue is named by List's kind and a number, as `queue_by` has it
 
-    // The holder, where the queue is a lock's.
+    // The holder, where the queue is a lock's, else 0, as the row has it (`holder_of`).
     fn holder_in(&self, kind: u16, number: u16) -> u16
         requires { is_queue self.now.shape kind number ≡ true }
         ensures { (s : State model) → Shows self.now s → result ≡ holder_of s (queue_by kind number) }
@@ -50,7 +50,7 @@ impl<'a> Yard<'a> {
         }
     }
 
-    // The wakeup, where the queue is a condition's.
+    // The wakeup, where the queue is a condition's, else 0, as the row has it (`wakeup_of`).
     fn wakeup_in(&self, kind: u16, number: u16) -> u16
         requires { is_queue self.now.shape kind number ≡ true }
         ensures { (s : State model) → Shows self.now s → result ≡ wakeup_of s (queue_by kind number) }

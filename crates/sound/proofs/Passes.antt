@@ -19,6 +19,8 @@ use Rattle.model.proofs.Lists.{member_here, all_members}
 use Rattle.model.proofs.Places.{stands_at, waiting_is}
 use Rattle.links.specs.Link as links
 use Rattle.ring.specs.Ring.{last_of, Linked}
+use Rattle.ring.proofs.Lists.{member_last}
+use Rattle.ring.proofs.Places.{falling_agree}
 use Rattle.area.specs.Layout.{at}
 use Rattle.area.specs.Layout.Part.{kept, tail, next}
 use Rattle.area.specs.Layout.Slot.{Parks, Running, Tail, Holder, Link, Flags, Timer}
@@ -27,7 +29,7 @@ use Rattle.area.specs.Reading.{shape_of, parts_of, read_from, state_of}
 use Rattle.area.specs.Rings.{records}
 use Rattle.area.specs.Sound.{Sound}
 use Rattle.area.proofs.Whole.{Counts, counts_in}
-use Rattle.area.proofs.Rings.{last_member, ring_ext, member_inside}
+use Rattle.area.proofs.Rings.{ring_ext, member_inside}
 use Rattle.area.proofs.States.{chain_read}
 use Rattle.heads.specs.First.{Counted, Runs}
 use Rattle.heads.proofs.Tests.{Headed}
@@ -36,7 +38,7 @@ use Rattle.members.proofs.Chains.{Words, Member}
 use Rattle.sound.proofs.Queues.{kind_of, tail_word, holder_word}
 use Rattle.sound.proofs.Lists.{hits, every, every_once}
 use Rattle.sound.proofs.Visits.{reading, total, Visited, link_word, flags_word, timer_word, next_part, priority_part, total_hits}
-use Rattle.sound.proofs.Whole.{Whole, falling_ext}
+use Rattle.sound.proofs.Whole.{Whole}
 
 module _ (ws : List ℕ) (small : Words ws) (S : Sound ws) where
   abbrev n : Shape
@@ -205,7 +207,7 @@ module _ (ws : List ℕ) (small : Words ws) (S : Sound ws) where
       linked = linked q h;
       ends = ends q h;
       members = all_members (Member rs P (kind_of q) (holder_word ws q / 8)) (reading ws q) (λ x m. record { within = is_inside x q m; free = free x q h m; fits = rw (link_word ws x, flags_word ws x, timer_word ws x) (fits x q m) });
-      falls = falling_ext (priorities (state_of ws).fields) (links.priority rs) (reading ws q) level (S.valid.placed.falls q);
+      falls = falling_agree (priorities (state_of ws).fields) (links.priority rs) (reading ws q) (λ p m. sym (level p m)) (S.valid.placed.falls q);
     };
   }
     where
@@ -225,7 +227,7 @@ module _ (ws : List ℕ) (small : Words ws) (S : Sound ws) where
           let t = S.tidy Running refl in
           let i = m y (member_here y ys) in
           let u = inside_bounds P y i in
-          let last_in = inside_bounds P (last_of y ys) (m (last_of y ys) (last_member y ys)) in
+          let last_in = inside_bounds P (last_of y ys) (m (last_of y ys) (member_last y ys)) in
           let o = l.0 in
           let still : links.link rs y / 4 % 2 ≡ 0 = rw (link_word ws y) (rw (f, i) at S.valid.steady) in
           record { nobody = λ z. absurd (omega arith); somebody = λ z. record { first = omega arith; clear = rw o still } }

@@ -17,12 +17,13 @@ use Rattle.model.proofs.Lists.{member_count, absent_count, at_most, members_all}
 use Rattle.links.specs.Link as links
 use Rattle.links.specs.Link.{slot}
 use Rattle.ring.specs.Ring.{last_of, Linked}
+use Rattle.ring.proofs.Lists.{member_last}
 use Rattle.area.specs.Layout.{at, records_at}
 use Rattle.area.specs.Layout.Part.{kept, tail, next}
 use Rattle.area.specs.Layout.Slot.{Link, Flags, Timer}
 use Rattle.area.specs.Reading.{shape_of, parts_of, queue_of}
 use Rattle.area.specs.Rings.{records}
-use Rattle.area.proofs.Rings.{Once, ring_ext, last_member, In}
+use Rattle.area.proofs.Rings.{Once, ring_ext, In}
 use Rattle.area.proofs.States.{read_ring}
 use Rattle.heads.specs.Heads.{heading}
 use Rattle.heads.proofs.Tests.{Headed, heading_is, is_heading}
@@ -130,7 +131,7 @@ led ws v z = go (reading ws ready) v.ring.linked v.ring.ends v.ring.members
     go : (ys : List ℕ) → Linked (links.next (records (shape_of ws) ws)) (get_or ws 5 0 / 8) ys → last_of 0 ys ≡ get_or ws 5 0 / 8 → All T ys
         → (inside (get_or ws 0 0) (get_or ws 5 0 / 8) ≡ true) × (inside (get_or ws 0 0) (links.next (records (shape_of ws) ws) (get_or ws 5 0 / 8)) ≡ true)
     go [] l e m = absurd (z (sym e))
-    go (y ∷ ys) l e m = (rw (← e) (members_all T (y ∷ ys) m (last_of y ys) (last_member y ys)).within, rw l.0 m.0.within)
+    go (y ∷ ys) l e m = (rw (← e) (members_all T (y ∷ ys) m (last_of y ys) (member_last y ys)).within, rw l.0 m.0.within)
 
 -- ---- several queues
 

@@ -17,11 +17,13 @@ use Rattle.model.specs.Machine as machine
 use Rattle.model.specs.Rules.{counted}
 use Rattle.model.specs.Valid.{room}
 use Rattle.model.proofs.Tests.{Case, holds, fails, stops, same_case, eqb_yes, eqb_no, leb_no, inside_bounds}
-use Rattle.model.proofs.Lists.{member_here, member_there, all_members, members_all}
+use Rattle.model.proofs.Lists.{member_here, member_there, members_all}
 use Rattle.model.proofs.Places.{at_place, waiting_is}
 use Rattle.links.specs.Link as links
 use Rattle.links.specs.Link.{slot}
 use Rattle.ring.specs.Ring.{last_of, Linked}
+use Rattle.ring.proofs.Lists.{member_last}
+use Rattle.ring.proofs.Places.{falling_agree}
 use Rattle.area.specs.Layout.{Slot, word, at, has}
 use Rattle.area.specs.Layout.Part.{kept, tail, next, locked, waiting}
 use Rattle.area.specs.Layout.Slot.{Processes, LocksConditions, Parks, Clock, Running, Tail, Holder, Link, Flags, Timer}
@@ -29,7 +31,6 @@ use Rattle.area.specs.State.{last}
 use Rattle.area.specs.Reading.{shape_of, parts_of, state_of}
 use Rattle.area.specs.Rings.{records}
 use Rattle.area.specs.Sound.{Sound}
-use Rattle.area.proofs.Rings.{last_member}
 use Rattle.heads.specs.First.{Counted, Runs}
 use Rattle.heads.proofs.Tests.{Headed}
 use Rattle.members.proofs.Tests.{Asleep, Fits}
@@ -46,13 +47,6 @@ pub record Whole (ws : List ℕ) : Type 0 where
   pub once : (x : ℕ) → total ws x (every (shape_of ws)) ≡ bit (inside (get_or ws 0 0) x)
 
 -- ---- lists
-
-pub falling_ext : (f g : ℕ → ℕ) (xs : List ℕ) → ((p : ℕ) → member p xs ≡ true → f p ≡ g p) → Falling f xs → Falling g xs
-falling_ext f g [] h c = tt
-falling_ext f g (x ∷ xs) h c = (
-  all_members (λ y. g y ≤ g x) xs (λ y m. rw (← h y (member_there y x xs m), ← h x (member_here x xs)) (members_all (λ y. f y ≤ f x) xs c.0 y m)),
-  falling_ext f g xs (λ p m. h p (member_there p x xs m)) c.1,
-)
 
 -- who comes after a member of a ring is a member
 chain_next : (f : ℕ → ℕ) (x : ℕ) (xs : List ℕ) → Linked f x xs → (p : ℕ) → member p (x ∷ xs) ≡ true → (p ≡ last_of x xs) ⊎ (member (f p) xs ≡ true)
@@ -312,7 +306,7 @@ module _ (ws : List ℕ) (small : Words ws) (W : Whole ws) where
       level x m = sym (priority_part ws x small (there x q m).1.within)
 
       go : (b : Bool) → exists n q ≡ b → Falling (priorities (state_of ws).fields) (reading ws q)
-      go true h = falling_ext (links.priority rs) (priorities (state_of ws).fields) (reading ws q) level (W.each q h).ring.falls
+      go true h = falling_agree (links.priority rs) (priorities (state_of ws).fields) (reading ws q) (λ p m. sym (level p m)) (W.each q h).ring.falls
       go false h = rw (none_there q h) tt
 
   runs_at : get_or ws 4 0 / 8 % 1024 ≡ first (reading ws ready)
@@ -324,7 +318,7 @@ module _ (ws : List ℕ) (small : Words ws) (W : Whole ws) where
       go : (ys : List ℕ) → Linked (links.next rs) (get_or ws 5 0 / 8) ys → last_of 0 ys ≡ get_or ws 5 0 / 8 → All (Member rs P 0 0) ys → get_or ws 4 0 / 8 % 1024 ≡ first ys
       go [] l e m = let a = W.runs.nobody (sym e) in omega arith
       go (y ∷ ys) l e m =
-          let b = inside_bounds P (last_of y ys) (members_all (Member rs P 0 0) (y ∷ ys) m (last_of y ys) (last_member y ys)).within in
+          let b = inside_bounds P (last_of y ys) (members_all (Member rs P 0 0) (y ∷ ys) m (last_of y ys) (member_last y ys)).within in
           let z : get_or ws 5 0 / 8 ≡ 0 → ⊥ = λ z. omega arith in
           let f = (W.runs.somebody z).first in let w = first_within z in let o = l.0 in let u = most in
           omega arith

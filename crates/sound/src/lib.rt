@@ -1,4 +1,5 @@
 // Whether an area is sound: one pass over the words of the queues, each ring walked as its word is met. Assumes nothing.
+// Why an area and its counts are two parameters: crates/area/src/lib.rt, above its reads and writes.
 #![tactic(auto)]
 
 ghost use Rattle.std.specs.Prelude.{◌≡◌, true, List, ℕ, ◌≤◌, ◌<◌, length, option_map};
@@ -26,6 +27,7 @@ fn rings<const KIND: u16>(
     ensures { (js : List ℕ) → Met roll.entry.processes marks.old js count → Told roll.entry.processes result marks.new (passed heads.now roll.entry.records.now roll.entry.processes KIND number js) }
 {
     let mut found = count;
+    // by number, as `passed` goes: a lock has two words, any other queue one
     for i in 0..number {
         let at = heads::head_at(KIND, i);
         let w = heads[at];
@@ -102,7 +104,7 @@ pub fn sound(words: &[u16]) -> bool
     heads::runs(area, &area[first_record..])
 }
 
-// The counts of a sound area, with which each call begins; an unsound one is refused.
+// The counts of a sound area, with which every call on one but Start begins; an unsound one is refused.
 pub fn shape_of(area: &[u16]) -> Result<Shape, Refusal>
     ensures { Opens area.now result }
 {

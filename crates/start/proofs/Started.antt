@@ -14,12 +14,13 @@ use Rattle.std.specs.List.{list_any}
 use Rattle.std.proofs.lemmas.List.{length-replicate, get_or-replicate, drop_at}
 use Rattle.model.specs.declared.Shape.{Shape}
 use Rattle.model.specs.declared.Answer.{Answer}
-use Rattle.model.specs.Queue.{Queue, any_of}
+use Rattle.model.specs.Queue.{Queue}
 use Rattle.model.specs.Queue.Queue.{ready, park, lock, condition}
 use Rattle.model.specs.Field.{Field}
 use Rattle.model.specs.Field.Field.{clock, running, priority, armed, timer, failed, abort, holder, wakeup, abortable}
 use Rattle.model.specs.Rules.{counted, any_above, start_code, fresh}
 use Rattle.model.specs.Machine.{model, start, refusal}
+use Rattle.model.proofs.Places.{any_none}
 use Rattle.area.specs.Layout.{Part, Parts, Slot, word, span, size, at, has, Stored}
 use Rattle.area.specs.Layout.Part.{kept, tail, next, locked, waiting}
 use Rattle.area.specs.Layout.Slot.{Processes, LocksConditions, Parks, Clock, Running, Tail, Holder, Link, Flags, Timer}
@@ -56,10 +57,6 @@ next_none : (rs : List Queue) (p : ℕ) → next_in (λ q. []) rs p ≡ 0
 next_none [] p = refl
 next_none (r ∷ rs) p = next_none rs p
 
-any_none : (k : ℕ) → any_of k (λ c. false) ≡ false
-any_none zero = refl
-any_none (suc k) = any_none k
-
 fresh_none : (f : Field) → fresh [] f ≡ 0
 fresh_none clock = refl
 fresh_none running = refl
@@ -78,7 +75,7 @@ laid_none n (kept f) = sym (fresh_none f)
 laid_none n (tail q) = refl
 laid_none n (next p) = sym (next_none (queues n) p)
 laid_none n (locked l) = refl
-laid_none n (waiting p) = rw (any_none n.conditions)
+laid_none n (waiting p) = rw (any_none n.conditions (λ c. false) (λ c. refl))
 
 span_some : (f : Part) → 0 < span f
 span_some (kept clock) = omega arith

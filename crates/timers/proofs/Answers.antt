@@ -4,7 +4,7 @@ use native.Mathlib.Omega.{arith}
 use mathlib.Core.Path.{◌≡◌, refl, sym, ap, ◌∙◌}
 use mathlib.Core.Bool.{true}
 use mathlib.Core.List.{List, [], ◌∷◌, ◌++◌}
-use lib.ListN.{length, take, drop, length-append, length-drop}
+use lib.ListN.{length, take, drop}
 use lib.Seq.{take_at, drop-append-add, drop-drop}
 use Rattle.model.specs.declared.Shape.{Shape}
 use Rattle.model.specs.Queue.{inside}
@@ -21,10 +21,6 @@ module _ (ones old : List ℕ) {mid : List ℕ} {count : ℕ} (c : count ≡ len
   -- what is written over the front of a buffer is its front
   pub front_ones : take count mid ≡ ones
   front_ones = rw w (take_at ones (drop (length ones) old) count (sym c))
-
-  -- and the buffer is as long as it was
-  pub long_ones : length ones ≤ length old → length mid ≡ length old
-  long_ones h = ap length w ∙ omega (arith, length-append ones (drop (length ones) old), length-drop (length ones) old)
 
   -- behind twice as many it is as it was
   rest_ones : drop (count + count) mid ≡ drop (2 * count) old

@@ -7,7 +7,7 @@ use mathlib.Core.Path.{◌≡◌, refl, sym, ap, ◌∙◌}
 use mathlib.Core.Bool.{Bool, true, false, cond}
 use mathlib.Core.List.{List, [], ◌∷◌, ◌++◌, append-nil}
 use lib.Dec.{eqb}
-use lib.ListN.{length, get_or, drop, set, length-append, length-drop, length-map}
+use lib.ListN.{length, get_or, drop, set, length-append, length-map}
 use lib.Seq.{drop-cons, append_snoc, set_at}
 use Rattle.model.specs.declared.Shape.{Shape}
 use Rattle.model.specs.Queue.{inside, up_to, filter}
@@ -117,14 +117,6 @@ count_all n s (suc k) = rw (length-append, ← (count_all n s k), length-map) (m
 pub record Over (xs old new : List ℕ) (at : ℕ) : Type 0 where
   pub count : at ≡ length xs
   pub words : new ≡ xs ++ drop at old
-
--- before the first
-pub over_start : (ws : List ℕ) → Over [] ws ws 0
-over_start ws = record { count = refl; words = refl }
-
--- it is as long as it was
-pub over_long : {xs old new : List ℕ} {at : ℕ} → Over xs old new at → at ≤ length old → length new ≡ length old
-over_long {xs} {old} {at = at} o h = ap length o.words ∙ simp (length-append, length-drop) (let k = o.count in omega arith)
 
 module _ (t : ℕ → Bool) {p : ℕ} (h : 1 ≤ p) {old new : List ℕ} {at : ℕ} (o : Over (filter t (up_to (p - 1))) old new at) where
   -- one process more, who passes the test

@@ -1,6 +1,6 @@
 -- What Wait comes to at each of its returns, by the numbers that the code reads: its rule, test by test, its timer, and its moves, of which
 -- the waiter's comes last. Assumes nothing.
-use Rattle.std.proofs.Common.{◌≡◌, ℕ, ◌+◌, ◌%◌, ◌≤◌, Bool, true, false, not, ◌&&◌, ◌||◌, eqb, ◌≢◌, List, [], ◌∷◌, ◌++◌, length, sym, refl, ap, ◌∙◌, subst, arith}
+use Rattle.std.proofs.Common.{◌≡◌, ℕ, ◌+◌, ◌≤◌, Bool, true, false, not, ◌&&◌, ◌||◌, eqb, ◌≢◌, List, [], ◌∷◌, ◌++◌, length, sym, refl, ap, ◌∙◌, subst, arith}
 use Rattle.model.specs.declared.Shape.{Shape}
 use Rattle.model.specs.declared.Ticks.{Ticks}
 use Rattle.model.specs.declared.Answer.{Answer}
@@ -26,9 +26,6 @@ use Rattle.moves.proofs.Shared.{runner_stands}
 
 pub alarm_none : (now : ℕ) {t : ℕ} → t ≡ 0 → ◌≡◌ {A = ℕ} 0 (alarm now t)
 alarm_none now {t} e = rw (eqb_yes t 0 e)
-
-pub alarm_due : (now : ℕ) {t d : ℕ} → t ≢ 0 → d ≡ (now + t) % 65536 → d ≡ alarm now t
-alarm_due now {t} o e = rw (eqb_no t 0 o) e
 
 -- they are set by the ticks, and by the clock of the state
 pub sleeps : {n : Shape} {old new : List ℕ} (s : State model) (p k t : ℕ) {a now d : ℕ} → a ≡ bit (some t) → now ≡ s.fields clock → d ≡ alarm now t

@@ -18,7 +18,7 @@ use locks::again;
 use model::{Answer, Refusal, Shape, Ticks};
 use outcomes::{answers, codes};
 
-// The timer of a wait of t ticks: the clock plus t, going round, or 0 for none.
+// The timer of a wait of t ticks: the clock plus t, going round, or 0 for none, as a timer's word has it (`alarm`).
 fn alarm_at(now: u16, t: u16) -> u16
     ensures { result ≡ alarm now t }
 {

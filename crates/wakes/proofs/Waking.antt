@@ -8,6 +8,7 @@ use mathlib.Core.Logic.{◌≢◌}
 use mathlib.Core.List.{List, [], ◌∷◌}
 use lib.Dec.{eqb}
 use lib.ListN.{length}
+use Rattle.std.proofs.lemmas.List.{nil_from_length}
 use Rattle.model.specs.declared.Shape.{Shape}
 use Rattle.model.specs.declared.Answer.{Answer}
 use Rattle.model.specs.declared.Call.TheVariants.{Notify, Naked}
@@ -58,11 +59,6 @@ unfolding nakedly
 nakedly_first c [] s h = absurd (h refl)
 nakedly_first c (x ∷ xs) s h = refl
 
--- nobody is the first
-none_first : (xs : List ℕ) → length (first_only xs) ≡ 0 → first_only xs ≡ []
-none_first [] e = refl
-none_first (x ∷ xs) e = let z : ⊥ = omega arith in absurd z
-
 -- ---- the calls
 
 module _ {n : Shape} {old : List ℕ} {s : State model} (H : Holds n old s) (c : ℕ) where
@@ -91,7 +87,7 @@ module _ {n : Shape} {old : List ℕ} {s : State model} (H : Holds n old s) (c :
 
 -- where nobody has woken, nothing has changed
 pub still : {n : Shape} {old new : List ℕ} (s : State model) (c : ℕ) → 0 ≡ length (first_only (s.queues (condition c))) → Becomes n old new (woken (first_only (s.queues (condition c))) s) → Becomes n old new s
-still {n} {old} {new} s c e b = subst (λ (xs : List ℕ). Becomes n old new (woken xs s)) (none_first (s.queues (condition c)) (sym e)) b
+still {n} {old} {new} s c e b = subst (λ (xs : List ℕ). Becomes n old new (woken xs s)) (nil_from_length (first_only (s.queues (condition c))) (sym e)) b
 
 -- ---- the first wakes
 

@@ -2,11 +2,12 @@
 -- Assumes nothing.
 use Prim.Native.Nat.{ℕ, ◌+◌, ◌*◌, ◌/◌, ◌%◌, ◌^◌, ◌<◌, ◌≤◌}
 use native.Mathlib.Omega.{arith}
-use native.Mathlib.Nat.{zero-add, one-mul, mul-suc, mul-le-mul_left, mul-lt-mul_of_pos_left, mod-lt, pow-le-pow_right, mod-eq_of_lt, div-eq_of_lt, div-div-eq-div-mul, add-mul-mod_self_left, add-mul-div_left}
+use native.Mathlib.Nat.{zero-add, mul-suc, mul-le-mul_left, mul-lt-mul_of_pos_left, mod-lt, pow-le-pow_right, mod-eq_of_lt, div-eq_of_lt, div-div-eq-div-mul, add-mul-mod_self_left, add-mul-div_left}
 use mathlib.Core.Path.{◌≡◌, refl, sym, ap, ◌∙◌}
 use mathlib.Core.List.{List, [], ◌∷◌, ◌++◌, append_assoc, append-nil}
 use lib.ListN.{length, get_or, length-append}
 use lib.Pow.{pow_pos, pow-add}
+use Rattle.std.proofs.lemmas.Nat.{one_shl}
 use Rattle.model.specs.declared.Answer.{Answer}
 use Rattle.model.specs.declared.Report.{Report}
 use Rattle.model.specs.Queue.{All}
@@ -18,7 +19,7 @@ use Rattle.wire.specs.Wire.{packed, unpacked, Carries, report_fields, nearest_fi
 
 -- how many numbers at most twenty bits hold is shifted in 64
 pub room_of : (w : ℕ) → w ≤ 20 → 1 * 2 ^ w % 2 ^ 64 ≡ 2 ^ w
-room_of w h = let e = pow-le-pow_right {n = 2} (omega arith) h in rw one-mul (mod-eq_of_lt (omega (arith, e)))
+room_of w h = one_shl w 64 (omega arith)
 
 -- fields have no more bits than theirs together
 packed_small : (w : ℕ) (xs : List ℕ) → packed w xs < 2 ^ (w * length xs)

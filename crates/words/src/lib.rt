@@ -48,7 +48,7 @@ pub fn equal(a: &[u8], b: &[u8]) -> bool
     a == b
 }
 
-// The numbers after the word that ends at `from`, put into `table`: how many they are, where each is one. No `split` over the spaces: tried, and what stands in the table so far stayed unproved.
+// The numbers after the word that ends at `from`, put into `table`: how many they are, where each is one; a count, since `Reads` takes so many from the table. No `split` over the spaces: tried, and what stands in the table so far stayed unproved.
 pub fn numbers(line: &[u8], from: usize, table: &mut [u16]) -> Option<usize>
     requires from_within { from ≤ length line.now }
     requires short_line { length line.now ≤ 8192 }
